@@ -10,8 +10,8 @@ TOP = pathlib.Path(__file__).resolve().parent.parent
 DOCS = [TOP / "README.md", *sorted((TOP / "docs").glob("*.md"))]
 # what is no name of the code: parts of forms, lines and replies, commands, and names of the standards and of the kit
 LIKE_CODE = re.compile(r"^[A-Z]\w*[a-z]\w*$|^\w+_\w+$|^\w+(?:-\w+)+$")
-MODULES = re.compile(r"`(xf_\w+)`:? ((?:[A-Z]\w+)(?:, [A-Z]\w+)*)")
-FILES = re.compile(r"`(xf_\w+)` (\w+\.rt(?:, \w+\.rt)*)")
+MODULES = re.compile(r"`(\w+_\w+)(?:::(\w+))?`:? ((?:[A-Z]\w+)(?:, [A-Z]\w+)*)")
+FILES = re.compile(r"`(\w+_\w+)(?:::(\w+))?` (\w+\.rt(?:, \w+\.rt)*)")
 LINK = re.compile(r"\]\(([^)#\s]*)(?:#([^)\s]*))?\)")
 CHECKED = {"CONTRACTS.md", "EMBEDDING.md", "MACHINE.md", "PROVED.md", "THEOREM.md", "REFUSALS.md", "DEFINITIONS.md", "CRATES.md"}
 
@@ -29,13 +29,17 @@ def words_of_code():
 
 
 def places(line):
-    """The files that a line names behind the names of crates."""
-    for crate, modules in MODULES.findall(line):
-        for module in modules.split(", "):
-            yield f"{crate} {module}", [TOP / "crates" / crate / part / f"{module}.antt" for part in ("specs", "proofs")]
-    for crate, files in FILES.findall(line):
-        for file in files.split(", "):
-            yield f"{crate} {file}", [TOP / "crates" / crate / "src" / file]
+    """The files that a line names behind the names of crates, or of modules of crates."""
+    for crate, part, modules in MODULES.findall(line):
+        word = "".join(it.capitalize() for it in part.split("_"))
+        folders = [f"specs/{word}", f"proofs/{word}Lemmas"] if part else ["specs", "proofs"]
+        if (TOP / "crates" / crate).exists():
+            for module in modules.split(", "):
+                yield f"{crate} {module}", [TOP / "crates" / crate / folder / f"{module}.antt" for folder in folders]
+    for crate, part, files in FILES.findall(line):
+        if (TOP / "crates" / crate).exists():
+            for file in files.split(", "):
+                yield f"{crate} {file}", [TOP / "crates" / crate / "src" / part / file]
 
 
 def anchors(path):

@@ -229,7 +229,7 @@ class Loader:
         return (text(uri[1]) if uri[0] == "Some" else ""), text(q[1].f_local)
 
     def walk(self, e, parent, space, model):
-        space = D.xf_doc__Plant__default_below(self.b, space, e.f_attributes)
+        space = D.xf_def_forest__Plant__default_below(self.b, space, e.f_attributes)
         uri, local = self.name(e.f_name, space)
         is_xf = uri == XF
         if is_xf and local in PASSED:
@@ -275,7 +275,7 @@ class Loader:
         n.parts, n.children = [], []
         if n.kind == "instance":
             inner = [c for c in e.f_children if c[0] == "Element"]
-            self.documents.append(ap(D.xf_doc__Plant__contents_of(self.b), inner[0], space, 0))
+            self.documents.append(ap(D.xf_def_forest__Plant__contents_of(self.b), inner[0], space, 0))
             n.space = space
             return n
         for c in e.f_children:
@@ -474,4 +474,4 @@ class Loader:
         numbers = lambda k: tuple(n.number for n in self.of_kind[k])
         self.form = R(f_decimals=self.decimals(), f_tables=tables, f_elements=tuple(self.element(n) for n in self.nodes), f_models=numbers("model"), f_instances=numbers("instance"),
                       f_binds=numbers("bind"), f_submissions=numbers("submission"), f_repeats=numbers("repeat"), f_switches=numbers("switch"))
-        self.program = D.xf_form_machine__Tables__program_of(self.form, self.b, tuple(self.documents))
+        self.program = D.xf_def_machine__Tables__program_of(self.form, self.b, tuple(self.documents))

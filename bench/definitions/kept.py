@@ -24,9 +24,9 @@ def keep(name):
     setattr(D, name, call)
 
 
-NAMES = ("xf_doc__Visit__visits", "xf_doc__Changes__root_of", "xf_doc__Order__instance_of", "xf_doc__StringValue__string_value", "xf_doc__Shape__shape",
-         "xf_form_machine__Surround__documents", "xf_form_machine__Properties__values_in", "xf_ui__Elements__ancestors", "xf_ui__Elements__element_at",
-         "xf_ui__Elements__repeats_around", "xf_ui__Calls__handlers", "xf_ui__Index__named_indexes")
+NAMES = ("xf_def_forest__Visit__visits", "xf_def_forest__Changes__root_of", "xf_def_forest__Order__instance_of", "xf_def_forest__StringValue__string_value", "xf_def_forest__Shape__shape",
+         "xf_def_machine__Surround__documents", "xf_def_machine__Properties__values_in", "xf_def_ui__Elements__ancestors", "xf_def_ui__Elements__element_at",
+         "xf_def_ui__Elements__repeats_around", "xf_def_ui__Calls__handlers", "xf_def_ui__Index__named_indexes")
 
 
 def keep_all():

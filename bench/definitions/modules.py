@@ -2,7 +2,7 @@
 import os
 import re
 
-CRATES = "xf_base xf_num xf_plain_values xf_table xf_name xf_types xf_schema xf_dates xf_funcs xf_store xf_graph xf_ast xf_doc xf_lang xf_model xf_ui xf_form_machine".split()
+CRATES = "xf_base xf_num xf_def_values xf_table xf_name xf_types xf_schema xf_dates xf_funcs xf_store xf_graph xf_def_syntax xf_def_forest xf_def_xpath xf_def_model xf_def_ui xf_def_machine".split()
 ROOT = os.path.join(os.path.dirname(os.path.abspath(__file__)), "..", "..", "crates")
 CON = {"true": ("True", 0), "false": ("False", 0), "zero": ("0", 0), "suc": ("suc", 1), "Some": ("Some", 1), "None": ("None", 0), "Ok": ("Ok", 1),
        "Err": ("Err", 1), "pos": ("pos", 1), "negsuc": ("negsuc", 1), "[]": ("nil", 0), "tt": ("tt", 0)}

@@ -39,7 +39,7 @@ def prepare(turns):
     from library import Fn
     import kept
     kept.keep_all()
-    profile = definitions.xf_form_machine__Profile__usual(Fn(definitions.xf_funcs__Called__called, 4), Fn(definitions.xf_schema__Facets__is_of_type, 3))
+    profile = definitions.xf_def_machine__Profile__usual(Fn(definitions.xf_funcs__Called__called, 4), Fn(definitions.xf_schema__Facets__is_of_type, 3))
     return profile.with_(f_turns=turns)
 
 
@@ -54,13 +54,13 @@ class Played:
         self.store = {name: tuple(held.encode()) for name, held in case.get("store", {}).items()}
         self.refused, self.start, self.state = None, [], None
         program = Loader(case["form"]).program
-        made = definitions.xf_form_machine__Construct__construct(profile, program)
+        made = definitions.xf_def_machine__Construct__construct(profile, program)
         if made[0] == "Err":
-            self.refused = [text(t)[:-1] for t in definitions.xf_form_machine__FormReplies__construct_texts(made)]
+            self.refused = [text(t)[:-1] for t in definitions.xf_def_machine__FormReplies__construct_texts(made)]
             return
-        outcome = self.over_answers(lambda answers: definitions.xf_form_machine__Start__start(profile, program, answers),
+        outcome = self.over_answers(lambda answers: definitions.xf_def_machine__Start__start(profile, program, answers),
                                     lambda outcome: outcome[2].f_calls if outcome[0] == "accepted" else outcome[2])
-        written = text(definitions.xf_form_machine__FormReplies__start_text(outcome)).split("\n")[:-1]
+        written = text(definitions.xf_def_machine__FormReplies__start_text(outcome)).split("\n")[:-1]
         if outcome[0] == "refused":
             self.refused = written
             return
@@ -85,7 +85,7 @@ class Played:
 
     def replies(self, line):
         """The lines that may be written for a line, each as a list."""
-        reply = self.over_answers(lambda answers: self.d.xf_form_machine__Replies__reply(self.profile, True, self.state, answers, tuple(line.encode())),
+        reply = self.over_answers(lambda answers: self.d.xf_def_machine__Replies__reply(self.profile, True, self.state, answers, tuple(line.encode())),
                                   lambda reply: reply.f_calls)
         self.state = reply.f_after
         return [self.text(t).split("\n")[:-1] for t in reply.f_texts]

@@ -5,7 +5,7 @@
 # Usage: bench/eval/refused.sh [STEP]: with a number only each STEPth allocation is refused.
 . "$(dirname "$0")/../common.sh"
 program=refused.rt.txt modules=tree
-make_bench refused_bench xf_base xf_name xf_ast xf_doc xf_json xf_lang xf_path xf_tree xf_eval
+make_bench refused_bench xf_base xf_name xf_def_syntax xf_def_forest xf_json xf_def_xpath xf_path xf_tree xf_eval
 gcc -O2 -Wall -fno-builtin -shared -fPIC -o "$work/turns.so" "$here/turns.c"
 python3 "$here/limits.py" json > "$work/limits"
 ulimit -c 0

@@ -7,7 +7,7 @@ command -v xml2-config > "$work/found" || { echo "skipped: no xml2-config (libxm
 # shellcheck disable=SC2046
 gcc -O2 -Wall $(xml2-config --cflags) -o "$work/plain" "$here/plain.c" $(xml2-config --libs)
 program=speed.rt.txt modules=tree
-make_bench eval_bench xf_base xf_name xf_ast xf_doc xf_json xf_lang xf_path xf_tree xf_eval
+make_bench eval_bench xf_base xf_name xf_def_syntax xf_def_forest xf_json xf_def_xpath xf_path xf_tree xf_eval
 cp "$ours" "$work/ours"
 # input NAME EXPRESSIONS WORD..: the trees that these words name and the expressions, for both programs.
 input() {

@@ -5,7 +5,7 @@
 # With the word `refused`, it loads a form of every element instead, with each allocation refused in turn: the loader has to say `Memory`.
 . "$(dirname "$0")/../common.sh"
 python=/usr/bin/python3
-make_bench load_bench xf_base xf_num xf_table xf_name xf_types xf_ast xf_path xf_json xf_vocabulary xf_refusals xf_loader
+make_bench load_bench xf_base xf_num xf_table xf_name xf_types xf_def_syntax xf_path xf_json xf_form_vocabulary xf_form_refusals xf_form
 
 # Each allocation of the loading is refused in one run, until a run has no more of them. One that is refused before or behind it ends the run.
 refuse() {

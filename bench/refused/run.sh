@@ -5,7 +5,7 @@
 set -euo pipefail
 here=$(cd "$(dirname "$0")" && pwd)
 top=$(cd "$here/../.." && pwd)
-crate=${1:-xf_forest_tests}
+crate=${1:-xf_test_forest}
 test=${2:-memory::a_change_without_memory_leaves_the_forest}
 program="$top/crates/$crate/out/${crate}_tests"
 work=$(mktemp -d)

@@ -2,7 +2,7 @@
 # Measures the lines of the state of an instance with many elements of one name beside each other: those of 64,000 may take at most 0.2
 # seconds, and no more than five times what those of 16,000 take, which may take no more than five times what those of 4,000 take.
 . "$(dirname "$0")/../common.sh"
-make_bench report_bench xf_base xf_name xf_ast xf_doc xf_tree xf_report
+make_bench report_bench xf_base xf_name xf_def_syntax xf_def_forest xf_tree xf_report
 declare -A took
 for count in 4000 16000 64000; do
     made=$(least_of_five "$work/none" "$ours" "$count")

@@ -1,11 +1,11 @@
 #!/usr/bin/env bash
-# Measures the forest of xf_tree, the draft of xf_undo and the paths of xf_paths beside a plain arena of linked nodes with the same calls. Both
+# Measures the forest of xf_tree, the draft of xf_undo and the paths of xf_tree_paths beside a plain arena of linked nodes with the same calls. Both
 # must print the same; ours may take at most twice as long, and no longer on what is below a node. Works of a size are measured over about 64,000
 # nodes, without the planting, and may grow by 1.3 times what is linear from 4,000 nodes to 16,000 and from there to 64,000. Growth is measured by
 # instructions, as valgrind counts them, since times grow by what the processor's caches hold too; where it is missing, by times.
 . "$(dirname "$0")/../common.sh"
 modules=growth
-make_bench tree_bench xf_base xf_name xf_doc xf_tree xf_undo xf_paths
+make_bench tree_bench xf_base xf_name xf_def_forest xf_tree xf_undo xf_tree_paths
 
 # before WORD SIZE TIMES: the words of a run that plants what this one plants. What is done over and over on one tree is done once there too: the
 # first time may cost the tidying up of memory after the planting.

@@ -3,15 +3,15 @@ use Rattle.std.proofs.Common.{ℕ, ◌≡◌, List, map, get_or, unwrap_or, opti
 use Rattle.std.proofs.lemmas.Option.{unwrap_or-slice_get, slice_get-map}
 use Rattle.xf_store.specs.declared.answers.Answer.{Answer}
 use Rattle.xf_store.specs.declared.call.StoreCall.{StoreCall}
-use Rattle.xf_ast.specs.declared.element.Element.{Element}
-use Rattle.xf_ast.specs.declared.form.Form.{Form}
-use Rattle.xf_form_machine.specs.Program.{Role, role_at}
-use Rattle.xf_form_machine.specs.Program as role
-use Rattle.xf_form_machine.specs.Tables.{role_of}
-use Rattle.xf_form_machine.specs.Profile.{Profile}
-use Rattle.xf_form_machine.specs.State.{State}
-use Rattle.xf_form_machine.specs.Refusal.{Refusal, Refused}
-use Rattle.xf_form_machine.specs.Events.{Fired}
+use Rattle.xf_def_syntax.specs.declared.element.Element.{Element}
+use Rattle.xf_def_syntax.specs.declared.form.Form.{Form}
+use Rattle.xf_def_machine.specs.Program.{Role, role_at}
+use Rattle.xf_def_machine.specs.Program as role
+use Rattle.xf_def_machine.specs.Tables.{role_of}
+use Rattle.xf_def_machine.specs.Profile.{Profile}
+use Rattle.xf_def_machine.specs.State.{State}
+use Rattle.xf_def_machine.specs.Refusal.{Refusal, Refused}
+use Rattle.xf_def_machine.specs.Events.{Fired}
 use Rattle.xf_actions.specs.declared.defaults.QuietAction.TheVariants.{Nothing, Rebuild, Recalculate, Revalidate, Reset}
 use Rattle.xf_actions.specs.declared.defaults.DefaultAction.{DefaultAction}
 use Rattle.xf_actions.specs.declared.defaults.DefaultAction.TheVariants.{Quiet, Refresh, Submit, Send}

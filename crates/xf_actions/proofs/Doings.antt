@@ -1,22 +1,22 @@
 -- Setvalue and message as works.
 use Rattle.std.proofs.Common.{ℕ, ◌≡◌, List, Bool, true, false, not, Option, Some, None, Result, Ok, Err, refl, sym}
 use Rattle.xf_store.specs.declared.call.StoreCall.{StoreCall}
-use Rattle.xf_form_machine.specs.Program.{Work}
-use Rattle.xf_form_machine.specs.Program as work
-use Rattle.xf_form_machine.specs.Profile.{Profile}
-use Rattle.xf_form_machine.specs.State.{State}
-use Rattle.xf_doc.specs.Shape.{has_elements}
-use Rattle.xf_lang.specs.Setting.{Meaning}
-use Rattle.xf_ui.specs.Context.{inside}
-use Rattle.xf_form_machine.specs.declared.note.Note.TheVariants.{Message}
-use Rattle.xf_form_machine.specs.Refusal.{Refusal, Refused, binding, refused, or_long}
-use Rattle.xf_form_machine.specs.Flow.{Run, ◌>>=◌, when, where_some}
-use Rattle.xf_form_machine.specs.Surround.{interface, quiet, all_in}
-use Rattle.xf_form_machine.specs.Primitives.{set_text, add_note}
-use Rattle.xf_form_machine.specs.Properties.{readonly_in, path_in}
-use Rattle.xf_form_machine.specs.Acting.{Acting}
-use Rattle.xf_form_machine.specs.SetValue.{set_value, set_open, unless_parent, value_asked}
-use Rattle.xf_form_machine.specs.Telling.{message}
+use Rattle.xf_def_machine.specs.Program.{Work}
+use Rattle.xf_def_machine.specs.Program as work
+use Rattle.xf_def_machine.specs.Profile.{Profile}
+use Rattle.xf_def_machine.specs.State.{State}
+use Rattle.xf_def_forest.specs.Shape.{has_elements}
+use Rattle.xf_def_xpath.specs.Setting.{Meaning}
+use Rattle.xf_def_ui.specs.Context.{inside}
+use Rattle.xf_def_machine.specs.declared.note.Note.TheVariants.{Message}
+use Rattle.xf_def_machine.specs.Refusal.{Refusal, Refused, binding, refused, or_long}
+use Rattle.xf_def_machine.specs.Flow.{Run, ◌>>=◌, when, where_some}
+use Rattle.xf_def_machine.specs.Surround.{interface, quiet, all_in}
+use Rattle.xf_def_machine.specs.Primitives.{set_text, add_note}
+use Rattle.xf_def_machine.specs.Properties.{readonly_in, path_in}
+use Rattle.xf_def_machine.specs.Acting.{Acting}
+use Rattle.xf_def_machine.specs.SetValue.{set_value, set_open, unless_parent, value_asked}
+use Rattle.xf_def_machine.specs.Telling.{message}
 use Rattle.xf_actions.specs.declared.work.Doing.TheVariants.{Sets, Speaks}
 use Rattle.xf_actions.specs.Performs.{Refuses, RefusedAs}
 use Rattle.xf_actions.specs.Parts.{value_of_work}

@@ -3,17 +3,17 @@ use Rattle.std.proofs.Common.{ℕ, ◌≡◌, List, Bool, false, length, map, Op
 use Rattle.std.proofs.lemmas.List.{length-map}
 use Rattle.xf_store.specs.declared.answers.Answer.{Answer}
 use Rattle.xf_store.specs.declared.call.StoreCall.{StoreCall}
-use Rattle.xf_ast.specs.declared.form.Form.{Form}
-use Rattle.xf_form_machine.specs.Program.{Program}
-use Rattle.xf_form_machine.specs.Profile.{Profile}
-use Rattle.xf_form_machine.specs.State.{State}
-use Rattle.xf_form_machine.specs.Refusal.{Refusal}
-use Rattle.xf_form_machine.specs.Flow.{Run, ◌>>=◌, when, where_some, in_turn}
-use Rattle.xf_form_machine.specs.Events.{Fired, Tell}
-use Rattle.xf_form_machine.specs.Act.{act, act_within}
-use Rattle.xf_form_machine.specs.Update.{update}
-use Rattle.xf_form_machine.specs.Default.{default}
-use Rattle.xf_form_machine.specs.Dispatch.{Further, handle, after_all}
+use Rattle.xf_def_syntax.specs.declared.form.Form.{Form}
+use Rattle.xf_def_machine.specs.Program.{Program}
+use Rattle.xf_def_machine.specs.Profile.{Profile}
+use Rattle.xf_def_machine.specs.State.{State}
+use Rattle.xf_def_machine.specs.Refusal.{Refusal}
+use Rattle.xf_def_machine.specs.Flow.{Run, ◌>>=◌, when, where_some, in_turn}
+use Rattle.xf_def_machine.specs.Events.{Fired, Tell}
+use Rattle.xf_def_machine.specs.Act.{act, act_within}
+use Rattle.xf_def_machine.specs.Update.{update}
+use Rattle.xf_def_machine.specs.Default.{default}
+use Rattle.xf_def_machine.specs.Dispatch.{Further, handle, after_all}
 use Rattle.xf_actions.specs.Performs.{Refuses}
 use Rattle.xf_actions.specs.Seen.{IsProgram, fired_of, concluded_of, ending_of}
 use Rattle.xf_actions.specs.declared.fired.Concluded.{Concluded}

@@ -1,13 +1,13 @@
 -- A reset, step by step.
 use Rattle.std.proofs.Common.{ℕ, ◌≡◌, ◌+◌, ◌<◌, List, [], drop, get_or, length, Option, Ok, ap, sym, ◌∙◌}
 use Rattle.xf_store.specs.declared.call.StoreCall.{StoreCall}
-use Rattle.xf_form_machine.specs.Profile.{Profile}
-use Rattle.xf_form_machine.specs.Program.{Program}
-use Rattle.xf_form_machine.specs.State.{State}
-use Rattle.xf_form_machine.specs.Refusal.{Refusal}
-use Rattle.xf_form_machine.specs.Flow.{Run, ◌>>=◌, in_turn}
-use Rattle.xf_form_machine.specs.Update.{reindex}
-use Rattle.xf_form_machine.specs.Construct.{construct, put_back, instances_of, reset}
+use Rattle.xf_def_machine.specs.Profile.{Profile}
+use Rattle.xf_def_machine.specs.Program.{Program}
+use Rattle.xf_def_machine.specs.State.{State}
+use Rattle.xf_def_machine.specs.Refusal.{Refusal}
+use Rattle.xf_def_machine.specs.Flow.{Run, ◌>>=◌, in_turn}
+use Rattle.xf_def_machine.specs.Update.{reindex}
+use Rattle.xf_def_machine.specs.Construct.{construct, put_back, instances_of, reset}
 use Rattle.xf_actions.specs.Performs.{Refuses}
 use Rattle.xf_actions.proofs.Flow.{fine, refuses-then, same-refuses, in_turn-step, in_turn-stop}
 

@@ -1,14 +1,14 @@
 -- The action that an element of the tables of a form is.
 use Rattle.std.proofs.Common.{ℕ, ◌≡◌, List, map, get_or, slice_get, Some, None, option_map, unwrap_or, refl, ap, sym, ◌∙◌}
 use Rattle.std.proofs.lemmas.Option.{unwrap_or-slice_get, slice_get-map}
-use Rattle.xf_ast.specs.declared.element.Element.{Element}
-use Rattle.xf_ast.specs.declared.element.Control.{Control}
-use Rattle.xf_ast.specs.declared.element.Control.TheVariants as control
-use Rattle.xf_ast.specs.declared.form.Form.{Form}
-use Rattle.xf_form_machine.specs.Program.{other}
-use Rattle.xf_form_machine.specs.Tables.{role_of, role_of_control}
-use Rattle.xf_form_machine.specs.State.{State}
-use Rattle.xf_form_machine.specs.Acting.{act_in, act_at}
+use Rattle.xf_def_syntax.specs.declared.element.Element.{Element}
+use Rattle.xf_def_syntax.specs.declared.element.Control.{Control}
+use Rattle.xf_def_syntax.specs.declared.element.Control.TheVariants as control
+use Rattle.xf_def_syntax.specs.declared.form.Form.{Form}
+use Rattle.xf_def_machine.specs.Program.{other}
+use Rattle.xf_def_machine.specs.Tables.{role_of, role_of_control}
+use Rattle.xf_def_machine.specs.State.{State}
+use Rattle.xf_def_machine.specs.Acting.{act_in, act_at}
 use Rattle.xf_actions.specs.Seen.{IsProgram}
 use Rattle.xf_actions.specs.Parts.{action_at}
 

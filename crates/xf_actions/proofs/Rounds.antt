@@ -1,14 +1,14 @@
 -- A round of an update, step by step.
 use Rattle.std.proofs.Common.{ℕ, zero, suc, ◌≡◌, ◌+◌, ◌-◌, ◌<◌, List, Bool, Option, Result, Ok, refl, ap, sym, ◌∙◌, arith, subst}
 use Rattle.xf_store.specs.declared.call.StoreCall.{StoreCall}
-use Rattle.xf_form_machine.specs.Profile.{Profile}
-use Rattle.xf_form_machine.specs.State.{State}
-use Rattle.xf_form_machine.specs.Refusal.{Refusal, Refused}
-use Rattle.xf_form_machine.specs.Flow.{Run, ◌>>=◌, in_turn}
-use Rattle.xf_form_machine.specs.Primitives.{spend}
-use Rattle.xf_form_machine.specs.Cycles.{counted_from}
-use Rattle.xf_form_machine.specs.Update.{is_refresh_due}
-use Rattle.xf_form_machine.specs.Events.{Fired}
+use Rattle.xf_def_machine.specs.Profile.{Profile}
+use Rattle.xf_def_machine.specs.State.{State}
+use Rattle.xf_def_machine.specs.Refusal.{Refusal, Refused}
+use Rattle.xf_def_machine.specs.Flow.{Run, ◌>>=◌, in_turn}
+use Rattle.xf_def_machine.specs.Primitives.{spend}
+use Rattle.xf_def_machine.specs.Cycles.{counted_from}
+use Rattle.xf_def_machine.specs.Update.{is_refresh_due}
+use Rattle.xf_def_machine.specs.Events.{Fired}
 use Rattle.xf_actions.specs.Performs.{Refuses, Makes}
 use Rattle.xf_actions.specs.Told.{refreshed_if, all_behaved, round_begun}
 use Rattle.xf_actions.proofs.Flow.{refuses-then, same-refuses, in_turn-next}

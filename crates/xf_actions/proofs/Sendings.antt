@@ -7,30 +7,30 @@ use Rattle.xf_json.specs.Element.{lit_in}
 use Rattle.xf_store.specs.declared.answers.Answer.{Answer}
 use Rattle.xf_store.specs.declared.answers.Answer.TheVariants.{PutDone, Failed, Found, Absent, TooLong}
 use Rattle.xf_store.specs.declared.call.Asked.{Asked}
-use Rattle.xf_ast.specs.declared.form.Replace.{Replace}
-use Rattle.xf_ast.specs.declared.form.Replace.TheVariants as instead
-use Rattle.xf_ast.specs.declared.form.Submission.{Submission}
-use Rattle.xf_model.specs.Submitted.{Submitted, left, no_data, invalid}
-use Rattle.xf_model.specs.Submitted as model
-use Rattle.xf_doc.specs.Plant.{contents_of}
+use Rattle.xf_def_syntax.specs.declared.form.Replace.{Replace}
+use Rattle.xf_def_syntax.specs.declared.form.Replace.TheVariants as instead
+use Rattle.xf_def_syntax.specs.declared.form.Submission.{Submission}
+use Rattle.xf_def_model.specs.Submitted.{Submitted, left, no_data, invalid}
+use Rattle.xf_def_model.specs.Submitted as model
+use Rattle.xf_def_forest.specs.Plant.{contents_of}
 use Rattle.xf_store.specs.Replay.{fits, answer_at}
-use Rattle.xf_form_machine.specs.declared.note.Note.TheVariants as note
-use Rattle.xf_form_machine.specs.Primitives.{set_text, add_note}
-use Rattle.xf_form_machine.specs.Properties.{relevant_in, valid_in}
-use Rattle.xf_form_machine.specs.Construct.{replace}
-use Rattle.xf_form_machine.specs.Program.{Role, role_at}
-use Rattle.xf_form_machine.specs.Program as role
-use Rattle.xf_form_machine.specs.Profile.{Profile}
-use Rattle.xf_form_machine.specs.State.{State}
-use Rattle.xf_form_machine.specs.Refusal.{Refused, or_long}
-use Rattle.xf_form_machine.specs.Flow.{Run, ◌>>=◌, where_some, in_turn, when}
-use Rattle.xf_form_machine.specs.Surround.{scope, model_holding}
-use Rattle.xf_form_machine.specs.Behave.{rebuild, recalculate, revalidate}
-use Rattle.xf_form_machine.specs.Update.{reindex, due_revalidation, refresh_cleared}
-use Rattle.xf_form_machine.specs.Events.{Fired, Tell}
-use Rattle.xf_form_machine.specs.Submit as submit
-use Rattle.xf_form_machine.specs.Exchange as exchange
-use Rattle.xf_form_machine.specs.Default as default
+use Rattle.xf_def_machine.specs.declared.note.Note.TheVariants as note
+use Rattle.xf_def_machine.specs.Primitives.{set_text, add_note}
+use Rattle.xf_def_machine.specs.Properties.{relevant_in, valid_in}
+use Rattle.xf_def_machine.specs.Construct.{replace}
+use Rattle.xf_def_machine.specs.Program.{Role, role_at}
+use Rattle.xf_def_machine.specs.Program as role
+use Rattle.xf_def_machine.specs.Profile.{Profile}
+use Rattle.xf_def_machine.specs.State.{State}
+use Rattle.xf_def_machine.specs.Refusal.{Refused, or_long}
+use Rattle.xf_def_machine.specs.Flow.{Run, ◌>>=◌, where_some, in_turn, when}
+use Rattle.xf_def_machine.specs.Surround.{scope, model_holding}
+use Rattle.xf_def_machine.specs.Behave.{rebuild, recalculate, revalidate}
+use Rattle.xf_def_machine.specs.Update.{reindex, due_revalidation, refresh_cleared}
+use Rattle.xf_def_machine.specs.Events.{Fired, Tell}
+use Rattle.xf_def_machine.specs.Submit as submit
+use Rattle.xf_def_machine.specs.Exchange as exchange
+use Rattle.xf_def_machine.specs.Default as default
 use Rattle.xf_actions.specs.Told.{Telling, told, untold}
 use Rattle.xf_actions.specs.Sent.{End, done, failed, Sent, end_event, then_done, behaved, put_tree, put_text, on_target, with_tree, with_text, responded, answered, exchanged, selected, attempted, sent, told_sent}
 use Rattle.xf_actions.specs.Defaulted.{Defaulted, nothing, telling, with_end, concluded, refreshed_now, of_model, of_role, submitted, defaulted}

@@ -3,25 +3,25 @@ use Rattle.std.proofs.Common.{ℕ, zero, suc, ◌≡◌, ◌-◌, ◌<◌, List,
 use Rattle.std.proofs.lemmas.Option.{none-some}
 use Rattle.xf_store.specs.declared.answers.Answer.{Answer}
 use Rattle.xf_store.specs.declared.call.StoreCall.{StoreCall}
-use Rattle.xf_lang.specs.Setting.{Meaning, Focus}
-use Rattle.xf_ui.specs.Context.{Context, context_of}
-use Rattle.xf_ui.specs.Named.{handler_rows}
-use Rattle.xf_ui.specs.Calls.{calls}
-use Rattle.xf_ui.specs.declared.answers.CallList.{CallList}
-use Rattle.xf_ui.specs.Elements.{actions_in}
-use Rattle.xf_form_machine.specs.Program.{Work, Act}
-use Rattle.xf_form_machine.specs.Program as work
-use Rattle.xf_form_machine.specs.Profile.{Profile}
-use Rattle.xf_form_machine.specs.State.{State}
-use Rattle.xf_form_machine.specs.Refusal.{Refusal, Refused, budget, depth, refused, or_long}
-use Rattle.xf_form_machine.specs.Flow.{Run, ◌>>=◌, when, where_some, in_turn}
-use Rattle.xf_form_machine.specs.Surround.{interface, quiet}
-use Rattle.xf_form_machine.specs.Primitives.{spend}
-use Rattle.xf_form_machine.specs.Events.{Fired, Tell}
-use Rattle.xf_form_machine.specs.Acting.{Acting, act_at, acting, acting_in, acting_with, truth_for}
-use Rattle.xf_form_machine.specs.Act.{if_true, while_true, repeated, done_by, begun, act_within}
-use Rattle.xf_form_machine.specs.Update.{is_due, rounds, round, update}
-use Rattle.xf_form_machine.specs.Dispatch.{Further, handle, after_all, handled, dispatch}
+use Rattle.xf_def_xpath.specs.Setting.{Meaning, Focus}
+use Rattle.xf_def_ui.specs.Context.{Context, context_of}
+use Rattle.xf_def_ui.specs.Named.{handler_rows}
+use Rattle.xf_def_ui.specs.Calls.{calls}
+use Rattle.xf_def_ui.specs.declared.answers.CallList.{CallList}
+use Rattle.xf_def_ui.specs.Elements.{actions_in}
+use Rattle.xf_def_machine.specs.Program.{Work, Act}
+use Rattle.xf_def_machine.specs.Program as work
+use Rattle.xf_def_machine.specs.Profile.{Profile}
+use Rattle.xf_def_machine.specs.State.{State}
+use Rattle.xf_def_machine.specs.Refusal.{Refusal, Refused, budget, depth, refused, or_long}
+use Rattle.xf_def_machine.specs.Flow.{Run, ◌>>=◌, when, where_some, in_turn}
+use Rattle.xf_def_machine.specs.Surround.{interface, quiet}
+use Rattle.xf_def_machine.specs.Primitives.{spend}
+use Rattle.xf_def_machine.specs.Events.{Fired, Tell}
+use Rattle.xf_def_machine.specs.Acting.{Acting, act_at, acting, acting_in, acting_with, truth_for}
+use Rattle.xf_def_machine.specs.Act.{if_true, while_true, repeated, done_by, begun, act_within}
+use Rattle.xf_def_machine.specs.Update.{is_due, rounds, round, update}
+use Rattle.xf_def_machine.specs.Dispatch.{Further, handle, after_all, handled, dispatch}
 use Rattle.xf_actions.specs.Performs.{Refuses}
 use Rattle.xf_actions.specs.Parts.{work_in, condition_in, repetition_in, is_block, holds, once_done, acted}
 use Rattle.xf_actions.specs.Changed.{changed}

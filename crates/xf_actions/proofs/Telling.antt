@@ -1,12 +1,12 @@
 -- Each change of the machine that tells events is what is done before, and then the events told one after the other.
 use Rattle.std.proofs.Common.{◌≡◌, List, [], ◌∷◌, map, Bool, true, false, Option, Some, None, Result, Ok, Err, refl, sym, ◌∙◌}
-use Rattle.xf_form_machine.specs.Profile.{Profile}
-use Rattle.xf_form_machine.specs.State.{State}
-use Rattle.xf_form_machine.specs.Refusal.{Refused}
-use Rattle.xf_form_machine.specs.Flow.{Run, ◌>>=◌, when, where_some, in_turn}
-use Rattle.xf_form_machine.specs.Primitives.{spend}
-use Rattle.xf_form_machine.specs.Update.{reindex, shown, refresh, round, is_refresh_due, all_cleared}
-use Rattle.xf_form_machine.specs.Events.{Fired, Tell}
+use Rattle.xf_def_machine.specs.Profile.{Profile}
+use Rattle.xf_def_machine.specs.State.{State}
+use Rattle.xf_def_machine.specs.Refusal.{Refused}
+use Rattle.xf_def_machine.specs.Flow.{Run, ◌>>=◌, when, where_some, in_turn}
+use Rattle.xf_def_machine.specs.Primitives.{spend}
+use Rattle.xf_def_machine.specs.Update.{reindex, shown, refresh, round, is_refresh_due, all_cleared}
+use Rattle.xf_def_machine.specs.Events.{Fired, Tell}
 use Rattle.xf_actions.specs.Told.{Telling, told, refreshed, refreshed_if, all_behaved, round_begun, untold, where_told, tells}
 use Rattle.xf_actions.proofs.Flow.{bind-assoc, then-same, then-ok}
 

@@ -1,15 +1,15 @@
 -- The tests of a `while`, one after the other: the action is the one that stood when it began, since no change touches the form.
 use Rattle.std.proofs.Common.{ℕ, ◌≡◌, ◌-◌, ◌<◌, List, Bool, true, false, Option, is_some, Ok, ap, sym, ◌∙◌, subst}
 use Rattle.xf_store.specs.declared.call.StoreCall.{StoreCall}
-use Rattle.xf_form_machine.specs.Program.{Act, role_at}
-use Rattle.xf_form_machine.specs.Profile.{Profile}
-use Rattle.xf_form_machine.specs.State.{State}
-use Rattle.xf_form_machine.specs.Refusal.{Refusal}
-use Rattle.xf_form_machine.specs.Flow.{Run, in_turn}
-use Rattle.xf_form_machine.specs.Primitives.{spend}
-use Rattle.xf_form_machine.specs.Events.{Fired, Tell}
-use Rattle.xf_form_machine.specs.Acting.{Acting, act_in, act_at}
-use Rattle.xf_form_machine.specs.Update.{is_due, rounds, round}
+use Rattle.xf_def_machine.specs.Program.{Act, role_at}
+use Rattle.xf_def_machine.specs.Profile.{Profile}
+use Rattle.xf_def_machine.specs.State.{State}
+use Rattle.xf_def_machine.specs.Refusal.{Refusal}
+use Rattle.xf_def_machine.specs.Flow.{Run, in_turn}
+use Rattle.xf_def_machine.specs.Primitives.{spend}
+use Rattle.xf_def_machine.specs.Events.{Fired, Tell}
+use Rattle.xf_def_machine.specs.Acting.{Acting, act_in, act_at}
+use Rattle.xf_def_machine.specs.Update.{is_due, rounds, round}
 use Rattle.xf_actions.specs.Performs.{Refuses}
 use Rattle.xf_actions.specs.Parts.{repetition_in, holds, once_done}
 use Rattle.xf_actions.specs.Told.{round_begun}

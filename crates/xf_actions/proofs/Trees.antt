@@ -3,23 +3,23 @@ use Rattle.std.proofs.Common.{ℕ, zero, suc, ◌≡◌, ◌+◌, ◌≤◌, ◌
 use Rattle.std.proofs.lemmas.List.{at_drop_more, at_drop_all, get_or-map, get_or_default, length-map, append_assoc, append-nil}
 use Rattle.std.proofs.lemmas.Option.{slice_get_within, get_or_from_slice_get, unwrap_or-slice_get}
 use Rattle.xf_store.specs.declared.call.StoreCall.{StoreCall}
-use Rattle.xf_lang.specs.Setting.{Focus}
-use Rattle.xf_model.specs.Places.{Place, planned_insert}
-use Rattle.xf_model.specs.Taken.{planned_delete}
-use Rattle.xf_plain_values.specs.Conversions.{Decimal}
-use Rattle.xf_form_machine.specs.Program.{Program, InsertBy, DeleteBy}
-use Rattle.xf_form_machine.specs.Profile.{Profile}
-use Rattle.xf_form_machine.specs.State.{State}
-use Rattle.xf_form_machine.specs.Refusal.{Refusal, Refused}
-use Rattle.xf_form_machine.specs.Flow.{Run, ◌>>=◌, in_turn}
-use Rattle.xf_form_machine.specs.Surround.{instance_holding}
-use Rattle.xf_form_machine.specs.Primitives.{copy}
-use Rattle.xf_form_machine.specs.Update.{reindex}
-use Rattle.xf_form_machine.specs.Acting.{Acting}
-use Rattle.xf_form_machine.specs.Events.{Fired}
-use Rattle.xf_form_machine.specs.Insert.{moved_focus, set_asked, origin_asked, place_asked, location_of, asked_with, copies_of, put_copy, insert_told}
-use Rattle.xf_form_machine.specs.Delete as del
-use Rattle.xf_form_machine.specs.Delete.{delete_told}
+use Rattle.xf_def_xpath.specs.Setting.{Focus}
+use Rattle.xf_def_model.specs.Places.{Place, planned_insert}
+use Rattle.xf_def_model.specs.Taken.{planned_delete}
+use Rattle.xf_def_values.specs.Conversions.{Decimal}
+use Rattle.xf_def_machine.specs.Program.{Program, InsertBy, DeleteBy}
+use Rattle.xf_def_machine.specs.Profile.{Profile}
+use Rattle.xf_def_machine.specs.State.{State}
+use Rattle.xf_def_machine.specs.Refusal.{Refusal, Refused}
+use Rattle.xf_def_machine.specs.Flow.{Run, ◌>>=◌, in_turn}
+use Rattle.xf_def_machine.specs.Surround.{instance_holding}
+use Rattle.xf_def_machine.specs.Primitives.{copy}
+use Rattle.xf_def_machine.specs.Update.{reindex}
+use Rattle.xf_def_machine.specs.Acting.{Acting}
+use Rattle.xf_def_machine.specs.Events.{Fired}
+use Rattle.xf_def_machine.specs.Insert.{moved_focus, set_asked, origin_asked, place_asked, location_of, asked_with, copies_of, put_copy, insert_told}
+use Rattle.xf_def_machine.specs.Delete as del
+use Rattle.xf_def_machine.specs.Delete.{delete_told}
 use Rattle.xf_actions.specs.Performs.{Refuses}
 use Rattle.xf_actions.specs.Inserting.{Inserting, planned}
 use Rattle.xf_actions.specs.Told.{Telling, quietly, where_told, tells}

@@ -1,21 +1,21 @@
 -- Which work it is, by its kind: what is then changed.
 use Rattle.std.proofs.Common.{ℕ, ◌≡◌, List, [], Option, Some, None, option_map, Ok, refl, ap, sym, ◌∙◌, get_or}
 use Rattle.xf_store.specs.declared.call.StoreCall.{StoreCall}
-use Rattle.xf_lang.specs.Setting.{Meaning}
-use Rattle.xf_form_machine.specs.Program.{Work}
-use Rattle.xf_form_machine.specs.Program as work
-use Rattle.xf_form_machine.specs.Profile.{Profile}
-use Rattle.xf_form_machine.specs.State.{State}
-use Rattle.xf_form_machine.specs.Refusal.{Refusal}
-use Rattle.xf_form_machine.specs.Flow.{Run, ◌>>=◌, where_some}
-use Rattle.xf_form_machine.specs.Surround.{interface}
-use Rattle.xf_form_machine.specs.Acting.{Acting, binding_of, whole_for}
-use Rattle.xf_form_machine.specs.Primitives.{add_note}
-use Rattle.xf_form_machine.specs.Events.{fired}
-use Rattle.xf_form_machine.specs.declared.note.Note.TheVariants.{Load}
-use Rattle.xf_ast.specs.declared.action.DispatchWork.{DispatchWork}
-use Rattle.xf_form_machine.specs.Choose.{named_copy, not_below_zero, set_index, act_index}
-use Rattle.xf_form_machine.specs.Telling.{loaded_text, load, focus}
+use Rattle.xf_def_xpath.specs.Setting.{Meaning}
+use Rattle.xf_def_machine.specs.Program.{Work}
+use Rattle.xf_def_machine.specs.Program as work
+use Rattle.xf_def_machine.specs.Profile.{Profile}
+use Rattle.xf_def_machine.specs.State.{State}
+use Rattle.xf_def_machine.specs.Refusal.{Refusal}
+use Rattle.xf_def_machine.specs.Flow.{Run, ◌>>=◌, where_some}
+use Rattle.xf_def_machine.specs.Surround.{interface}
+use Rattle.xf_def_machine.specs.Acting.{Acting, binding_of, whole_for}
+use Rattle.xf_def_machine.specs.Primitives.{add_note}
+use Rattle.xf_def_machine.specs.Events.{fired}
+use Rattle.xf_def_machine.specs.declared.note.Note.TheVariants.{Load}
+use Rattle.xf_def_syntax.specs.declared.action.DispatchWork.{DispatchWork}
+use Rattle.xf_def_machine.specs.Choose.{named_copy, not_below_zero, set_index, act_index}
+use Rattle.xf_def_machine.specs.Telling.{loaded_text, load, focus}
 use Rattle.xf_actions.specs.declared.work.Doing.TheVariants.{Loads, Indexes, Focuses}
 use Rattle.xf_actions.specs.Performs.{Refuses}
 use Rattle.xf_actions.specs.Parts.{index_of_work, resource_of_work}

@@ -1,25 +1,25 @@
 -- The work of an action is what it changes, and then the events told one after the other.
 use Rattle.std.proofs.Common.{ℕ, ◌≡◌, List, [], ◌∷◌, map, zip, Bool, true, false, Option, Ok, refl, sym, ◌∙◌, ◌==◌, get_or, codes, if◌then◌else◌}
-use Rattle.xf_lang.specs.Setting.{Focus}
-use Rattle.xf_model.specs.Places.{Place, planned_insert}
-use Rattle.xf_model.specs.Taken.{planned_delete}
-use Rattle.xf_plain_values.specs.Conversions.{Decimal}
-use Rattle.xf_ui.specs.Elements.{element_at}
-use Rattle.xf_ui.specs.Cases.{place_of_case}
-use Rattle.xf_form_machine.specs.Program.{Work, InsertBy, DeleteBy}
-use Rattle.xf_form_machine.specs.Program as work
-use Rattle.xf_form_machine.specs.Profile.{Profile}
-use Rattle.xf_form_machine.specs.State.{State}
-use Rattle.xf_form_machine.specs.Flow.{Run, ◌>>=◌, where_some, in_turn}
-use Rattle.xf_form_machine.specs.Surround.{Told, interface, instance_holding}
-use Rattle.xf_form_machine.specs.Primitives.{detach}
-use Rattle.xf_form_machine.specs.Update.{reindex}
-use Rattle.xf_form_machine.specs.Events.{Tell}
-use Rattle.xf_form_machine.specs.Acting.{Acting}
-use Rattle.xf_form_machine.specs.Act.{done_by}
-use Rattle.xf_form_machine.specs.Insert as machine
-use Rattle.xf_form_machine.specs.Delete as deletes
-use Rattle.xf_form_machine.specs.Choose as choose
+use Rattle.xf_def_xpath.specs.Setting.{Focus}
+use Rattle.xf_def_model.specs.Places.{Place, planned_insert}
+use Rattle.xf_def_model.specs.Taken.{planned_delete}
+use Rattle.xf_def_values.specs.Conversions.{Decimal}
+use Rattle.xf_def_ui.specs.Elements.{element_at}
+use Rattle.xf_def_ui.specs.Cases.{place_of_case}
+use Rattle.xf_def_machine.specs.Program.{Work, InsertBy, DeleteBy}
+use Rattle.xf_def_machine.specs.Program as work
+use Rattle.xf_def_machine.specs.Profile.{Profile}
+use Rattle.xf_def_machine.specs.State.{State}
+use Rattle.xf_def_machine.specs.Flow.{Run, ◌>>=◌, where_some, in_turn}
+use Rattle.xf_def_machine.specs.Surround.{Told, interface, instance_holding}
+use Rattle.xf_def_machine.specs.Primitives.{detach}
+use Rattle.xf_def_machine.specs.Update.{reindex}
+use Rattle.xf_def_machine.specs.Events.{Tell}
+use Rattle.xf_def_machine.specs.Acting.{Acting}
+use Rattle.xf_def_machine.specs.Act.{done_by}
+use Rattle.xf_def_machine.specs.Insert as machine
+use Rattle.xf_def_machine.specs.Delete as deletes
+use Rattle.xf_def_machine.specs.Choose as choose
 use Rattle.xf_actions.specs.Told.{Telling, told, quietly, where_told}
 use Rattle.xf_actions.specs.Inserting.{Inserting, planned}
 use Rattle.xf_actions.specs.TreeChanges.{tells_instance, inserted, inserted_by, insert_at, insert, deleted, delete_at, delete}

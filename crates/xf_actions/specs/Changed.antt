@@ -1,18 +1,18 @@
 -- What the work of an action changes, and the events that it then tells.
 use Rattle.std.specs.Prelude.{ℕ, List, [], ◌∷◌, Option, get_or, codes, Ok, ◌==◌, if◌then◌else◌}
-use Rattle.xf_ast.specs.declared.action.DispatchWork.{DispatchWork}
-use Rattle.xf_ui.specs.Elements.{element_at}
-use Rattle.xf_ui.specs.Cases.{cases_of, place_of_case}
-use Rattle.xf_form_machine.specs.Program.{Work}
-use Rattle.xf_form_machine.specs.Program as work
-use Rattle.xf_form_machine.specs.Profile.{Profile}
-use Rattle.xf_form_machine.specs.Surround.{interface}
-use Rattle.xf_form_machine.specs.Primitives.{in_model, refresh_due, set_case}
-use Rattle.xf_form_machine.specs.Events.{fired, fired_at, plainly, model_element, submission_element}
-use Rattle.xf_form_machine.specs.Acting.{Acting}
-use Rattle.xf_form_machine.specs.SetValue.{set_value}
-use Rattle.xf_form_machine.specs.Choose.{named_copy, act_index, switch_number}
-use Rattle.xf_form_machine.specs.Telling.{message, load, focus}
+use Rattle.xf_def_syntax.specs.declared.action.DispatchWork.{DispatchWork}
+use Rattle.xf_def_ui.specs.Elements.{element_at}
+use Rattle.xf_def_ui.specs.Cases.{cases_of, place_of_case}
+use Rattle.xf_def_machine.specs.Program.{Work}
+use Rattle.xf_def_machine.specs.Program as work
+use Rattle.xf_def_machine.specs.Profile.{Profile}
+use Rattle.xf_def_machine.specs.Surround.{interface}
+use Rattle.xf_def_machine.specs.Primitives.{in_model, refresh_due, set_case}
+use Rattle.xf_def_machine.specs.Events.{fired, fired_at, plainly, model_element, submission_element}
+use Rattle.xf_def_machine.specs.Acting.{Acting}
+use Rattle.xf_def_machine.specs.SetValue.{set_value}
+use Rattle.xf_def_machine.specs.Choose.{named_copy, act_index, switch_number}
+use Rattle.xf_def_machine.specs.Telling.{message, load, focus}
 use Rattle.xf_actions.specs.declared.work.Doing.{Doing}
 use Rattle.xf_actions.specs.declared.work.Doing.TheVariants.{Sets, Speaks, Inserts, Deletes, Loads, Indexes, Toggles, Focuses, Tells, Rests}
 use Rattle.xf_actions.specs.Told.{Telling, quietly, untold, where_told, tells}

@@ -1,13 +1,13 @@
 -- What a setindex asks for, and what is then done (XForms 1.1, section 10.6).
 use Rattle.std.specs.Prelude.{ℕ, Option, Some, None, option_map, get_or, Result, Ok}
-use Rattle.xf_lang.specs.Setting.{Meaning}
-use Rattle.xf_form_machine.specs.Profile.{Profile}
-use Rattle.xf_form_machine.specs.State.{State}
-use Rattle.xf_form_machine.specs.Refusal.{Refused}
-use Rattle.xf_form_machine.specs.Flow.{Run, ◌>>=◌, where_some}
-use Rattle.xf_form_machine.specs.Surround.{interface}
-use Rattle.xf_form_machine.specs.Acting.{Acting, whole_for}
-use Rattle.xf_form_machine.specs.Choose.{named_copy, not_below_zero, set_index}
+use Rattle.xf_def_xpath.specs.Setting.{Meaning}
+use Rattle.xf_def_machine.specs.Profile.{Profile}
+use Rattle.xf_def_machine.specs.State.{State}
+use Rattle.xf_def_machine.specs.Refusal.{Refused}
+use Rattle.xf_def_machine.specs.Flow.{Run, ◌>>=◌, where_some}
+use Rattle.xf_def_machine.specs.Surround.{interface}
+use Rattle.xf_def_machine.specs.Acting.{Acting, whole_for}
+use Rattle.xf_def_machine.specs.Choose.{named_copy, not_below_zero, set_index}
 
 -- none for NaN
 abbrev pub index_asked : Profile → Acting → Option Meaning → State → Result (Option ℕ) Refused

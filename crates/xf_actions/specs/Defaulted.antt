@@ -2,18 +2,18 @@
 -- is told after them.
 use Rattle.std.specs.Prelude.{ℕ, List, [], Option, Some, None, option_map, bytes_eq, codes, slice_get, Result, Ok, Err, if◌then◌else◌}
 use Rattle.xf_store.specs.declared.answers.Answer.{Answer}
-use Rattle.xf_ast.specs.declared.form.Submission.{Submission}
-use Rattle.xf_form_machine.specs.Program.{Role, role_at}
-use Rattle.xf_form_machine.specs.Program as role
-use Rattle.xf_form_machine.specs.Profile.{Profile}
-use Rattle.xf_form_machine.specs.State.{State}
-use Rattle.xf_form_machine.specs.Refusal.{Refused}
-use Rattle.xf_form_machine.specs.Flow.{Run, ◌>>=◌, in_turn, where_some}
-use Rattle.xf_form_machine.specs.Behave.{rebuild}
-use Rattle.xf_form_machine.specs.Update.{due_revalidation, refresh_cleared}
-use Rattle.xf_form_machine.specs.Construct.{reset}
-use Rattle.xf_form_machine.specs.Default.{recalculate_now, revalidate_now}
-use Rattle.xf_form_machine.specs.Events.{Fired, Tell}
+use Rattle.xf_def_syntax.specs.declared.form.Submission.{Submission}
+use Rattle.xf_def_machine.specs.Program.{Role, role_at}
+use Rattle.xf_def_machine.specs.Program as role
+use Rattle.xf_def_machine.specs.Profile.{Profile}
+use Rattle.xf_def_machine.specs.State.{State}
+use Rattle.xf_def_machine.specs.Refusal.{Refused}
+use Rattle.xf_def_machine.specs.Flow.{Run, ◌>>=◌, in_turn, where_some}
+use Rattle.xf_def_machine.specs.Behave.{rebuild}
+use Rattle.xf_def_machine.specs.Update.{due_revalidation, refresh_cleared}
+use Rattle.xf_def_machine.specs.Construct.{reset}
+use Rattle.xf_def_machine.specs.Default.{recalculate_now, revalidate_now}
+use Rattle.xf_def_machine.specs.Events.{Fired, Tell}
 use Rattle.xf_actions.specs.Told.{Telling, refreshed, untold}
 use Rattle.xf_actions.specs.Changed as work
 use Rattle.xf_actions.specs.Sent.{End, Sent, sent, end_event}

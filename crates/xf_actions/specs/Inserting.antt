@@ -1,14 +1,14 @@
 -- What an insert asks for, and where its copies go (XForms 1.1, section 10.3).
 use Rattle.std.specs.Prelude.{ℕ, Bool, List, Result, Ok}
-use Rattle.xf_lang.specs.Setting.{Focus}
-use Rattle.xf_model.specs.Places.{Place, planned_insert}
-use Rattle.xf_form_machine.specs.Program.{InsertBy}
-use Rattle.xf_form_machine.specs.Profile.{Profile}
-use Rattle.xf_form_machine.specs.State.{State}
-use Rattle.xf_form_machine.specs.Refusal.{Refused}
-use Rattle.xf_form_machine.specs.Flow.{◌>>=◌}
-use Rattle.xf_form_machine.specs.Acting.{Acting}
-use Rattle.xf_form_machine.specs.Insert.{set_asked, origin_asked, place_asked, asked_with, location_of}
+use Rattle.xf_def_xpath.specs.Setting.{Focus}
+use Rattle.xf_def_model.specs.Places.{Place, planned_insert}
+use Rattle.xf_def_machine.specs.Program.{InsertBy}
+use Rattle.xf_def_machine.specs.Profile.{Profile}
+use Rattle.xf_def_machine.specs.State.{State}
+use Rattle.xf_def_machine.specs.Refusal.{Refused}
+use Rattle.xf_def_machine.specs.Flow.{◌>>=◌}
+use Rattle.xf_def_machine.specs.Acting.{Acting}
+use Rattle.xf_def_machine.specs.Insert.{set_asked, origin_asked, place_asked, asked_with, location_of}
 
 -- an insert whose expressions are evaluated
 pub record Inserting : Type 0 where

@@ -1,16 +1,16 @@
 -- The parts of an action: its `if`, its `while` and its work, as they stand with its element.
 use Rattle.std.specs.Prelude.{ℕ, Bool, true, false, List, [], map, get_or, Option, Some, None, Result, Ok}
-use Rattle.xf_ast.specs.declared.form.Form.{Form}
-use Rattle.xf_lang.specs.Setting.{Meaning}
-use Rattle.xf_form_machine.specs.Program.{Work, Act, InsertBy, DeleteBy, all_in_it, set_value, insert, delete, set_index, load, other}
-use Rattle.xf_form_machine.specs.Tables.{role_of}
-use Rattle.xf_form_machine.specs.Profile.{Profile}
-use Rattle.xf_form_machine.specs.State.{State}
-use Rattle.xf_form_machine.specs.Refusal.{Refused}
-use Rattle.xf_form_machine.specs.Flow.{Run}
-use Rattle.xf_form_machine.specs.Events.{Tell}
-use Rattle.xf_form_machine.specs.Acting.{Acting, act_in, truth_for}
-use Rattle.xf_form_machine.specs.Act.{if_true, repeated, done_by}
+use Rattle.xf_def_syntax.specs.declared.form.Form.{Form}
+use Rattle.xf_def_xpath.specs.Setting.{Meaning}
+use Rattle.xf_def_machine.specs.Program.{Work, Act, InsertBy, DeleteBy, all_in_it, set_value, insert, delete, set_index, load, other}
+use Rattle.xf_def_machine.specs.Tables.{role_of}
+use Rattle.xf_def_machine.specs.Profile.{Profile}
+use Rattle.xf_def_machine.specs.State.{State}
+use Rattle.xf_def_machine.specs.Refusal.{Refused}
+use Rattle.xf_def_machine.specs.Flow.{Run}
+use Rattle.xf_def_machine.specs.Events.{Tell}
+use Rattle.xf_def_machine.specs.Acting.{Acting, act_in, truth_for}
+use Rattle.xf_def_machine.specs.Act.{if_true, repeated, done_by}
 
 -- the action of the tables of a form that is this element
 abbrev pub action_at : Form → ℕ → Option Act

@@ -4,9 +4,9 @@ use Rattle.std.specs.Prelude.{◌≡◌, ◌⊎◌, List, [], ◌∷◌, Option,
 use Rattle.xf_store.specs.declared.answers.Answer.{Answer}
 use Rattle.xf_store.specs.declared.call.StoreCall.{StoreCall}
 use Rattle.xf_store.specs.Replay.{Covers}
-use Rattle.xf_form_machine.specs.declared.limit.LimitWord.{LimitWord}
-use Rattle.xf_form_machine.specs.Refusal.{Refusal, Refused, limit}
-use Rattle.xf_form_machine.specs.State.{State}
+use Rattle.xf_def_machine.specs.declared.limit.LimitWord.{LimitWord}
+use Rattle.xf_def_machine.specs.Refusal.{Refusal, Refused, limit}
+use Rattle.xf_def_machine.specs.State.{State}
 
 -- ---- refusals
 

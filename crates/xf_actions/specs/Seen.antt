@@ -1,15 +1,15 @@
 -- What the types of the code stand for in the machine.
 use Rattle.std.specs.Prelude.{ℕ, ◌≡◌, List, map, Option, Some, None, option_map, slice_get}
-use Rattle.xf_ast.specs.declared.form.Form.{Form}
-use Rattle.xf_model.specs.Places as model
-use Rattle.xf_ui.specs.Interface.{interface_of}
-pub use Rattle.xf_ui.specs.Focused.{focus_of}
-pub use Rattle.xf_ui.specs.Told.{told_of}
-use Rattle.xf_form_machine.specs.Program.{Program}
-use Rattle.xf_form_machine.specs.Tables.{role_of}
-use Rattle.xf_form_machine.specs.State.{State}
-use Rattle.xf_form_machine.specs.Events as machine
-use Rattle.xf_form_machine.specs.Acting as machine_acting
+use Rattle.xf_def_syntax.specs.declared.form.Form.{Form}
+use Rattle.xf_def_model.specs.Places as model
+use Rattle.xf_def_ui.specs.Interface.{interface_of}
+pub use Rattle.xf_def_ui.specs.Focused.{focus_of}
+pub use Rattle.xf_def_ui.specs.Told.{told_of}
+use Rattle.xf_def_machine.specs.Program.{Program}
+use Rattle.xf_def_machine.specs.Tables.{role_of}
+use Rattle.xf_def_machine.specs.State.{State}
+use Rattle.xf_def_machine.specs.Events as machine
+use Rattle.xf_def_machine.specs.Acting as machine_acting
 use Rattle.xf_actions.specs.declared.fired.Fired.{Fired}
 use Rattle.xf_actions.specs.declared.acting.Acting.{Acting}
 use Rattle.xf_actions.specs.declared.place.Place.{Place}

@@ -9,25 +9,25 @@ use Rattle.xf_store.specs.declared.answers.Answer.{Answer}
 use Rattle.xf_store.specs.declared.answers.Answer.TheVariants.{PutDone, Found}
 use Rattle.xf_store.specs.declared.call.Asked.{Asked}
 use Rattle.xf_store.specs.Replay.{fits, answer_at}
-use Rattle.xf_ast.specs.declared.form.Replace.{Replace}
-use Rattle.xf_ast.specs.declared.form.Replace.TheVariants as instead
-use Rattle.xf_ast.specs.declared.form.Submission.{Submission}
-use Rattle.xf_doc.specs.Plant.{contents_of}
-use Rattle.xf_model.specs.Submitted.{Submitted, left, no_data, invalid, submitted}
-use Rattle.xf_form_machine.specs.declared.note.Note.TheVariants as note
-use Rattle.xf_form_machine.specs.Profile.{Profile}
-use Rattle.xf_form_machine.specs.State.{State}
-use Rattle.xf_form_machine.specs.Refusal.{Refused, or_long}
-use Rattle.xf_form_machine.specs.Flow.{◌>>=◌, in_turn}
-use Rattle.xf_form_machine.specs.Surround.{scope, model_holding}
-use Rattle.xf_form_machine.specs.Primitives.{set_text, add_note}
-use Rattle.xf_form_machine.specs.Properties.{relevant_in, valid_in}
-use Rattle.xf_form_machine.specs.Behave.{rebuild, recalculate, revalidate}
-use Rattle.xf_form_machine.specs.Update.{reindex, due_revalidation, refresh_cleared}
-use Rattle.xf_form_machine.specs.Construct.{replace}
-use Rattle.xf_form_machine.specs.Events.{Fired, Tell, fired_at, submission_element}
-use Rattle.xf_form_machine.specs.Submit.{target_by, takes_tree, takes_text, has_fault}
-use Rattle.xf_form_machine.specs.Exchange.{with_call, unless_many, asked_by, is_store_name, done_told, failed_told}
+use Rattle.xf_def_syntax.specs.declared.form.Replace.{Replace}
+use Rattle.xf_def_syntax.specs.declared.form.Replace.TheVariants as instead
+use Rattle.xf_def_syntax.specs.declared.form.Submission.{Submission}
+use Rattle.xf_def_forest.specs.Plant.{contents_of}
+use Rattle.xf_def_model.specs.Submitted.{Submitted, left, no_data, invalid, submitted}
+use Rattle.xf_def_machine.specs.declared.note.Note.TheVariants as note
+use Rattle.xf_def_machine.specs.Profile.{Profile}
+use Rattle.xf_def_machine.specs.State.{State}
+use Rattle.xf_def_machine.specs.Refusal.{Refused, or_long}
+use Rattle.xf_def_machine.specs.Flow.{◌>>=◌, in_turn}
+use Rattle.xf_def_machine.specs.Surround.{scope, model_holding}
+use Rattle.xf_def_machine.specs.Primitives.{set_text, add_note}
+use Rattle.xf_def_machine.specs.Properties.{relevant_in, valid_in}
+use Rattle.xf_def_machine.specs.Behave.{rebuild, recalculate, revalidate}
+use Rattle.xf_def_machine.specs.Update.{reindex, due_revalidation, refresh_cleared}
+use Rattle.xf_def_machine.specs.Construct.{replace}
+use Rattle.xf_def_machine.specs.Events.{Fired, Tell, fired_at, submission_element}
+use Rattle.xf_def_machine.specs.Submit.{target_by, takes_tree, takes_text, has_fault}
+use Rattle.xf_def_machine.specs.Exchange.{with_call, unless_many, asked_by, is_store_name, done_told, failed_told}
 use Rattle.xf_actions.specs.Told.{Telling, refreshed, untold, where_told}
 
 -- ---- how it ended

@@ -1,17 +1,17 @@
 -- The texts that setvalue and message make (XForms 1.1, sections 10.2 and 10.16).
 use Rattle.std.specs.Prelude.{ℕ, List, Option, Some, Result, Ok}
-use Rattle.xf_doc.specs.Shape.{has_elements}
-use Rattle.xf_ui.specs.Elements.{element_at}
-use Rattle.xf_ui.specs.Around.{first_bound}
-use Rattle.xf_ui.specs.Context.{inside}
-use Rattle.xf_ui.specs.Labels.{text_in}
-use Rattle.xf_form_machine.specs.Profile.{Profile}
-use Rattle.xf_form_machine.specs.State.{State}
-use Rattle.xf_form_machine.specs.Refusal.{Refused, or_long}
-use Rattle.xf_form_machine.specs.Flow.{Run, ◌>>=◌}
-use Rattle.xf_form_machine.specs.Surround.{interface, quiet, all_in}
-use Rattle.xf_form_machine.specs.Acting.{Acting, surroundings, binding_of}
-use Rattle.xf_form_machine.specs.SetValue.{unless_parent}
+use Rattle.xf_def_forest.specs.Shape.{has_elements}
+use Rattle.xf_def_ui.specs.Elements.{element_at}
+use Rattle.xf_def_ui.specs.Around.{first_bound}
+use Rattle.xf_def_ui.specs.Context.{inside}
+use Rattle.xf_def_ui.specs.Labels.{text_in}
+use Rattle.xf_def_machine.specs.Profile.{Profile}
+use Rattle.xf_def_machine.specs.State.{State}
+use Rattle.xf_def_machine.specs.Refusal.{Refused, or_long}
+use Rattle.xf_def_machine.specs.Flow.{Run, ◌>>=◌}
+use Rattle.xf_def_machine.specs.Surround.{interface, quiet, all_in}
+use Rattle.xf_def_machine.specs.Acting.{Acting, surroundings, binding_of}
+use Rattle.xf_def_machine.specs.SetValue.{unless_parent}
 
 -- the text of a message, be it empty
 abbrev pub message_text : Profile → Acting → State → Result (List ℕ) Refused

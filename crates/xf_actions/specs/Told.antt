@@ -1,17 +1,17 @@
 -- What is done before events are told, apart from telling them: each change of the machine that tells events is one that gives these events,
 -- and then tells them one after the other.
 use Rattle.std.specs.Prelude.{ℕ, Bool, true, false, List, [], ◌∷◌, map, length, Option, Some, None, Result, Ok, Err}
-use Rattle.xf_ui.specs.Notifications.{notifications}
+use Rattle.xf_def_ui.specs.Notifications.{notifications}
 use Rattle.xf_actions.specs.declared.world.Flag.{Flag}
 use Rattle.xf_actions.specs.declared.world.Flag.TheVariants.{Rebuild, Recalculate, Revalidate, Refresh}
-use Rattle.xf_form_machine.specs.Profile.{Profile}
-use Rattle.xf_form_machine.specs.State.{Flags, State}
-use Rattle.xf_form_machine.specs.Refusal.{Refused}
-use Rattle.xf_form_machine.specs.Flow.{Run, ◌>>=◌, in_turn}
-use Rattle.xf_form_machine.specs.Primitives.{spend}
-use Rattle.xf_form_machine.specs.Cycles.{counted_from}
-use Rattle.xf_form_machine.specs.Update.{reindex, shown, due_revalidation, is_refresh_due, all_cleared, refresh_cleared}
-use Rattle.xf_form_machine.specs.Events.{Fired, Tell, told_by}
+use Rattle.xf_def_machine.specs.Profile.{Profile}
+use Rattle.xf_def_machine.specs.State.{Flags, State}
+use Rattle.xf_def_machine.specs.Refusal.{Refused}
+use Rattle.xf_def_machine.specs.Flow.{Run, ◌>>=◌, in_turn}
+use Rattle.xf_def_machine.specs.Primitives.{spend}
+use Rattle.xf_def_machine.specs.Cycles.{counted_from}
+use Rattle.xf_def_machine.specs.Update.{reindex, shown, due_revalidation, is_refresh_due, all_cleared, refresh_cleared}
+use Rattle.xf_def_machine.specs.Events.{Fired, Tell, told_by}
 
 -- a change with the events that are told after it
 abbrev pub Telling : Type 0

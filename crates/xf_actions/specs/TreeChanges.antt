@@ -1,21 +1,21 @@
 -- What an insert and a delete change (XForms 1.1, sections 10.3 and 10.4), and the event that then tells the instance.
 use Rattle.std.specs.Prelude.{ℕ, Bool, List, [], ◌∷◌, map, zip, Option, get_or, codes, Ok}
-use Rattle.xf_model.specs.Places.{Place}
-use Rattle.xf_model.specs.Taken.{planned_delete}
-use Rattle.xf_lang.specs.Setting.{Focus}
-use Rattle.xf_plain_values.specs.Conversions.{Decimal}
-use Rattle.xf_form_machine.specs.Program.{InsertBy, DeleteBy}
-use Rattle.xf_form_machine.specs.Profile.{Profile}
-use Rattle.xf_form_machine.specs.State.{State}
-use Rattle.xf_form_machine.specs.Flow.{Run, ◌>>=◌, in_turn}
-use Rattle.xf_form_machine.specs.Surround.{Told, instance_holding}
-use Rattle.xf_form_machine.specs.Primitives.{detach}
-use Rattle.xf_form_machine.specs.Update.{reindex}
-use Rattle.xf_form_machine.specs.Events.{Fired, fired_at}
-use Rattle.xf_form_machine.specs.Acting.{Acting}
-use Rattle.xf_form_machine.specs.Insert.{moved_focus, set_asked, copies_of, put_copy, insert_told}
-use Rattle.xf_form_machine.specs.Delete as del
-use Rattle.xf_form_machine.specs.Delete.{delete_told}
+use Rattle.xf_def_model.specs.Places.{Place}
+use Rattle.xf_def_model.specs.Taken.{planned_delete}
+use Rattle.xf_def_xpath.specs.Setting.{Focus}
+use Rattle.xf_def_values.specs.Conversions.{Decimal}
+use Rattle.xf_def_machine.specs.Program.{InsertBy, DeleteBy}
+use Rattle.xf_def_machine.specs.Profile.{Profile}
+use Rattle.xf_def_machine.specs.State.{State}
+use Rattle.xf_def_machine.specs.Flow.{Run, ◌>>=◌, in_turn}
+use Rattle.xf_def_machine.specs.Surround.{Told, instance_holding}
+use Rattle.xf_def_machine.specs.Primitives.{detach}
+use Rattle.xf_def_machine.specs.Update.{reindex}
+use Rattle.xf_def_machine.specs.Events.{Fired, fired_at}
+use Rattle.xf_def_machine.specs.Acting.{Acting}
+use Rattle.xf_def_machine.specs.Insert.{moved_focus, set_asked, copies_of, put_copy, insert_told}
+use Rattle.xf_def_machine.specs.Delete as del
+use Rattle.xf_def_machine.specs.Delete.{delete_told}
 use Rattle.xf_actions.specs.Told.{Telling, quietly, where_told, tells}
 use Rattle.xf_actions.specs.Inserting.{Inserting, planned}
 

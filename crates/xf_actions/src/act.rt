@@ -2,12 +2,12 @@
 //! on the parts that are left, and in loops on the turns that are left.
 
 ghost use Rattle.std.specs.Prelude.{◌≡◌, false, map, option_map};
-ghost use Rattle.xf_form_machine.specs.Flow.{in_turn, where_some};
-ghost use Rattle.xf_form_machine.specs.Acting.{act_at};
-ghost use Rattle.xf_form_machine.specs.Act.{act_within};
-ghost use Rattle.xf_form_machine.specs.Default.{default};
-ghost use Rattle.xf_form_machine.specs.Update.{update as updated};
-ghost use Rattle.xf_form_machine.specs.Dispatch.{handle as handles, after_all, dispatch as dispatches};
+ghost use Rattle.xf_def_machine.specs.Flow.{in_turn, where_some};
+ghost use Rattle.xf_def_machine.specs.Acting.{act_at};
+ghost use Rattle.xf_def_machine.specs.Act.{act_within};
+ghost use Rattle.xf_def_machine.specs.Default.{default};
+ghost use Rattle.xf_def_machine.specs.Update.{update as updated};
+ghost use Rattle.xf_def_machine.specs.Dispatch.{handle as handles, after_all, dispatch as dispatches};
 ghost use Rattle.xf_store.specs.Called.{Called};
 ghost use Rattle.xf_actions.specs.Performs.{RunsOver};
 ghost use Rattle.xf_actions.specs.Seen.{fired_of, acting_of, ending_of};

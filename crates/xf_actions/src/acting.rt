@@ -1,7 +1,7 @@
 //! Actions as they act (XForms 1.1, sections 7.2 and 10).
 
-use xf_doc::NodeList;
-use xf_ui::Focus;
+use xf_def_forest::NodeList;
+use xf_def_ui::Focus;
 
 /// An action that is about to act.
 #[derive(Drop)]

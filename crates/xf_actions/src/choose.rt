@@ -1,9 +1,9 @@
 //! The actions that choose a row and a case (XForms 1.1, sections 10.5 and 10.6).
 
 ghost use Rattle.std.specs.Prelude.{◌≡◌, [], ◌∷◌, map, option_map, codes, Ok};
-ghost use Rattle.xf_form_machine.specs.Acting.{act_at};
-ghost use Rattle.xf_form_machine.specs.Choose.{not_below_zero as at_least_zero};
-ghost use Rattle.xf_form_machine.specs.Events.{plainly};
+ghost use Rattle.xf_def_machine.specs.Acting.{act_at};
+ghost use Rattle.xf_def_machine.specs.Choose.{not_below_zero as at_least_zero};
+ghost use Rattle.xf_def_machine.specs.Events.{plainly};
 ghost use Rattle.xf_actions.specs.Performs.{Runs, Makes, Reads};
 ghost use Rattle.xf_actions.specs.Seen.{fired_of, acting_of};
 ghost use Rattle.xf_actions.specs.Parts.{index_in};
@@ -15,9 +15,9 @@ use crate::fired::{Fired, FiredList};
 use crate::parts::action_of;
 use crate::tell::two;
 use crate::world::World;
-use xf_ast::Work;
 use xf_base::Items;
-use xf_doc::NodeList;
+use xf_def_forest::NodeList;
+use xf_def_syntax::Work;
 
 /// The index of the repeat of this number is set. NaN has no effect, and what is below zero is zero.
 pub fn set_index<W: World>(

@@ -2,9 +2,9 @@
 
 ghost use Rattle.std.specs.Prelude.{◌≡◌, map, None};
 ghost use Rattle.xf_store.specs.Called.{Called};
-ghost use Rattle.xf_form_machine.specs.Program.{role_at};
-ghost use Rattle.xf_form_machine.specs.Tables.{role_of, role_of_control};
-ghost use Rattle.xf_form_machine.specs.Default.{recalculate_now as recalculates_now, revalidate_now as revalidates_now};
+ghost use Rattle.xf_def_machine.specs.Program.{role_at};
+ghost use Rattle.xf_def_machine.specs.Tables.{role_of, role_of_control};
+ghost use Rattle.xf_def_machine.specs.Default.{recalculate_now as recalculates_now, revalidate_now as revalidates_now};
 ghost use Rattle.xf_actions.specs.Performs.{Runs, Makes, LeavesOver};
 ghost use Rattle.xf_actions.specs.Seen.{fired_of, concluded_of};
 ghost use Rattle.xf_actions.specs.Defaulted.{model_default, default_of, done_quietly, defaulted, refreshed_now};
@@ -14,8 +14,8 @@ use crate::reset::reset;
 use crate::round::{rebuild_due, recalculate_due, revalidate_due};
 use crate::tell::sent;
 use crate::world::World;
-use xf_ast::{Control, Kind};
 use xf_base::Items;
+use xf_def_syntax::{Control, Kind};
 use xf_name::Word;
 use xf_store::Store;
 

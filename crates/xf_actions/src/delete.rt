@@ -1,10 +1,10 @@
 //! The action delete (XForms 1.1, section 10.4).
 
 ghost use Rattle.std.specs.Prelude.{◌≡◌, map, option_map};
-ghost use Rattle.xf_form_machine.specs.Flow.{in_turn};
-ghost use Rattle.xf_form_machine.specs.Acting.{act_at};
-ghost use Rattle.xf_form_machine.specs.Insert.{moved_focus};
-ghost use Rattle.xf_form_machine.specs.Delete.{at_asked, location_of};
+ghost use Rattle.xf_def_machine.specs.Flow.{in_turn};
+ghost use Rattle.xf_def_machine.specs.Acting.{act_at};
+ghost use Rattle.xf_def_machine.specs.Insert.{moved_focus};
+ghost use Rattle.xf_def_machine.specs.Delete.{at_asked, location_of};
 ghost use Rattle.xf_actions.specs.Performs.{Runs, Makes, Reads};
 ghost use Rattle.xf_actions.specs.Seen.{fired_of, acting_of, focus_of};
 ghost use Rattle.xf_actions.specs.Parts.{delete_in};
@@ -15,10 +15,10 @@ use crate::fired::{Fired, FiredList};
 use crate::parts::action_of;
 use crate::tell::one;
 use crate::world::World;
-use xf_ast::Work;
 use xf_base::Items;
-use xf_doc::{NodeId, NodeList};
-use xf_ui::Focus;
+use xf_def_forest::{NodeId, NodeList};
+use xf_def_syntax::Work;
+use xf_def_ui::Focus;
 
 /// Has no effect where its `context` selects nothing.
 pub fn delete<W: World>(

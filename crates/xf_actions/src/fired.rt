@@ -1,9 +1,9 @@
 //! Events as they are dispatched (DOM Level 2 Events, section 1.2; XForms 1.1, section 4).
 
 use xf_base::Items;
-use xf_doc::NodeList;
+use xf_def_forest::NodeList;
+use xf_def_ui::PropertyList;
 use xf_name::Word;
-use xf_ui::PropertyList;
 
 /// An event to a copy of an element.
 #[derive(Drop)]

@@ -1,10 +1,10 @@
 //! The action insert (XForms 1.1, section 10.3).
 
 ghost use Rattle.std.specs.Prelude.{◌≡◌, map, zip, get_or, option_map, Ok};
-ghost use Rattle.xf_form_machine.specs.Flow.{in_turn};
-ghost use Rattle.xf_form_machine.specs.Acting.{act_at};
-ghost use Rattle.xf_form_machine.specs.Tables.{insert_by};
-ghost use Rattle.xf_form_machine.specs.Insert.{moved_focus, place_asked, copies_of, without_one, put_copy as puts_copy};
+ghost use Rattle.xf_def_machine.specs.Flow.{in_turn};
+ghost use Rattle.xf_def_machine.specs.Acting.{act_at};
+ghost use Rattle.xf_def_machine.specs.Tables.{insert_by};
+ghost use Rattle.xf_def_machine.specs.Insert.{moved_focus, place_asked, copies_of, without_one, put_copy as puts_copy};
 ghost use Rattle.xf_actions.specs.Performs.{Runs, Makes, Reads};
 ghost use Rattle.xf_actions.specs.Seen.{fired_of, acting_of, focus_of, place_of, inserting_of};
 ghost use Rattle.xf_actions.specs.Parts.{insert_in};
@@ -18,10 +18,10 @@ use crate::parts::action_of;
 use crate::place::{Inserting, Place};
 use crate::tell::one;
 use crate::world::World;
-use xf_ast::{InsertWork, Work};
 use xf_base::Items;
-use xf_doc::{NodeId, NodeList};
-use xf_ui::Focus;
+use xf_def_forest::{NodeId, NodeList};
+use xf_def_syntax::{InsertWork, Work};
+use xf_def_ui::Focus;
 
 /// Has no effect where its `context` selects nothing.
 pub fn insert<W: World>(

@@ -24,4 +24,4 @@ pub use fault::WorldFault;
 pub use fired::{Concluded, Ending, Fired, FiredList};
 pub use place::{Inserting, Place, PlaceList};
 pub use world::{Flag, World};
-pub use xf_ui::{Focus, Property, PropertyList};
+pub use xf_def_ui::{Focus, Property, PropertyList};

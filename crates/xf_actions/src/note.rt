@@ -1,8 +1,8 @@
 //! The actions that add a note (XForms 1.1, sections 10.7, 10.15 and 10.16).
 
 ghost use Rattle.std.specs.Prelude.{◌≡◌};
-ghost use Rattle.xf_form_machine.specs.Acting.{act_at, binding_of};
-ghost use Rattle.xf_form_machine.specs.Telling.{message as messages, load as loads, focus as focuses, loaded_text as text_loaded};
+ghost use Rattle.xf_def_machine.specs.Acting.{act_at, binding_of};
+ghost use Rattle.xf_def_machine.specs.Telling.{message as messages, load as loads, focus as focuses, loaded_text as text_loaded};
 ghost use Rattle.xf_actions.specs.Performs.{Runs, Reads};
 ghost use Rattle.xf_actions.specs.Seen.{acting_of};
 ghost use Rattle.xf_actions.specs.Parts.{resource_in};
@@ -11,8 +11,8 @@ use crate::acting::Acting;
 use crate::fired::Fired;
 use crate::parts::action_of;
 use crate::world::World;
-use xf_ast::Work;
-use xf_form_machine::Note;
+use xf_def_machine::Note;
+use xf_def_syntax::Work;
 use xf_name::Word;
 
 /// A note with the text of the message.

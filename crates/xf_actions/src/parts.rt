@@ -2,8 +2,8 @@
 
 ghost use Rattle.std.specs.Prelude.{◌≡◌, is_some, option_map};
 ghost use Rattle.std.specs.Option.{option_copied};
-ghost use Rattle.xf_form_machine.specs.Tables.{act_of, role_of};
-ghost use Rattle.xf_form_machine.specs.Acting.{act_at, act_in};
+ghost use Rattle.xf_def_machine.specs.Tables.{act_of, role_of};
+ghost use Rattle.xf_def_machine.specs.Acting.{act_at, act_in};
 ghost use Rattle.xf_actions.specs.Performs.{Reads};
 ghost use Rattle.xf_actions.specs.Seen.{fired_of, acting_of};
 ghost use Rattle.xf_actions.specs.Parts.{action_at, work_in, condition_in, repetition_in, is_block as blocks, holds};
@@ -11,7 +11,7 @@ ghost use Rattle.xf_actions.specs.Parts.{action_at, work_in, condition_in, repet
 use crate::acting::Acting;
 use crate::fired::Fired;
 use crate::world::World;
-use xf_ast::{Action, Form, Kind, Work};
+use xf_def_syntax::{Action, Form, Kind, Work};
 
 fn action_in(kind: &Kind) -> Option<&Action>
     ensures { option_map act_of (option_copied result) ≡ act_in (role_of kind.now) }

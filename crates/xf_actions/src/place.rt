@@ -1,7 +1,7 @@
 //! Where the copies of an insert go (XForms 1.1, section 10.3).
 
 use xf_base::Items;
-use xf_doc::{NodeId, NodeList};
+use xf_def_forest::{NodeId, NodeList};
 
 /// Where one copy goes, the copies before it standing.
 #[derive(Drop)]

@@ -1,12 +1,12 @@
 //! The reset of a model (XForms 1.1, section 4.3.7).
 
 ghost use Rattle.std.specs.Prelude.{◌≡◌};
-ghost use Rattle.xf_form_machine.specs.Flow.{in_turn};
-ghost use Rattle.xf_form_machine.specs.Construct.{construct, put_back, reset as resets};
+ghost use Rattle.xf_def_machine.specs.Flow.{in_turn};
+ghost use Rattle.xf_def_machine.specs.Construct.{construct, put_back, reset as resets};
 ghost use Rattle.xf_actions.specs.Performs.{Runs};
 
 use crate::world::World;
-use xf_doc::NodeList;
+use xf_def_forest::NodeList;
 
 /// The data of the model as construction left them; then the indexes are brought up to date.
 pub fn reset<W: World>(world: &mut W, model: u32) -> Result<(), W::Fault>

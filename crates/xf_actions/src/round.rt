@@ -1,7 +1,7 @@
 //! Rounds of an update (XForms 1.1, sections 4.3 and 4.6): the behaviours of each model that are due, then the refresh of the whole form.
 
 ghost use Rattle.std.specs.Prelude.{◌≡◌, map};
-ghost use Rattle.xf_form_machine.specs.Update.{due_rebuild as rebuilds, due_recalculation as recalculates, due_revalidation as revalidates};
+ghost use Rattle.xf_def_machine.specs.Update.{due_rebuild as rebuilds, due_recalculation as recalculates, due_revalidation as revalidates};
 ghost use Rattle.xf_actions.specs.Performs.{Runs, Makes};
 ghost use Rattle.xf_actions.specs.Seen.{fired_of};
 ghost use Rattle.xf_actions.specs.Told.{all_behaved, round_begun};

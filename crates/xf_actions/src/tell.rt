@@ -1,7 +1,7 @@
 //! The actions that only tell events (XForms 1.1, sections 10.8 to 10.13), and lists of events.
 
 ghost use Rattle.std.specs.Prelude.{◌≡◌, [], ◌∷◌, map, codes, Ok};
-ghost use Rattle.xf_form_machine.specs.Acting.{act_at};
+ghost use Rattle.xf_def_machine.specs.Acting.{act_at};
 ghost use Rattle.xf_actions.specs.Performs.{Reads};
 ghost use Rattle.xf_actions.specs.Seen.{fired_of};
 ghost use Rattle.xf_actions.specs.Parts.{work_in};
@@ -12,8 +12,8 @@ use crate::fault::WorldFault;
 use crate::fired::{Fired, FiredList};
 use crate::parts::action_of;
 use crate::world::World;
-use xf_ast::{DispatchWork, Work};
 use xf_base::Items;
+use xf_def_syntax::{DispatchWork, Work};
 
 /// The events of a dispatch, a send, or an event to the model in scope.
 pub fn told_events<W: World>(world: &W, acting: &Acting) -> Result<FiredList, W::Fault>

@@ -1,8 +1,8 @@
 //! The work of actions (XForms 1.1, section 10).
 
 ghost use Rattle.std.specs.Prelude.{◌≡◌, map};
-ghost use Rattle.xf_form_machine.specs.Acting.{act_at};
-ghost use Rattle.xf_form_machine.specs.SetValue.{set_value as value_set, set_open, value_asked};
+ghost use Rattle.xf_def_machine.specs.Acting.{act_at};
+ghost use Rattle.xf_def_machine.specs.SetValue.{set_value as value_set, set_open, value_asked};
 ghost use Rattle.xf_actions.specs.Performs.{Runs, Makes, Reads};
 ghost use Rattle.xf_actions.specs.Seen.{fired_of, acting_of};
 ghost use Rattle.xf_actions.specs.Parts.{work_in, value_in};
@@ -17,9 +17,9 @@ use crate::note::{load, message, set_focus};
 use crate::parts::action_of;
 use crate::tell::told_events;
 use crate::world::World;
-use xf_ast::Work;
 use xf_base::Items;
-use xf_doc::NodeId;
+use xf_def_forest::NodeId;
+use xf_def_syntax::Work;
 use xf_name::Word;
 
 /// Which work an action has.

@@ -1,34 +1,34 @@
 //! What the form machine is asked for. Each call is one of its functions; each but a want of memory is told as it is.
 
 ghost use Rattle.std.specs.Prelude.{◌≡◌, List, [], map, length, get_or, slice_get, option_map, codes, IfErr, Some, Ok};
-ghost use Rattle.xf_lang.specs.Meaning.{meaning};
+ghost use Rattle.xf_def_xpath.specs.Meaning.{meaning};
 ghost use Rattle.xf_store.specs.Called.{Called};
-ghost use Rattle.xf_ui.specs.Calls.{calls as called_by};
-ghost use Rattle.xf_form_machine.specs.Refusal.{budget};
-ghost use Rattle.xf_form_machine.specs.Surround.{interface, instance_holding as holding_instance};
-ghost use Rattle.xf_form_machine.specs.Tables.{insert_by};
-ghost use Rattle.xf_model.specs.Places.{planned_insert as insert_planned};
-ghost use Rattle.xf_model.specs.Taken.{planned_delete as delete_planned};
-ghost use Rattle.xf_form_machine.specs.Insert.{moved_focus, set_asked, origin_asked, at_asked as at_inserted, asked_with as insert_asked, location_of, insert_told};
-ghost use Rattle.xf_form_machine.specs.Delete.{at_asked as at_deleted, asked_with as delete_asked, location_of as delete_location, delete_told};
-ghost use Rattle.xf_ui.specs.Elements.{actions_in, element_at};
-ghost use Rattle.xf_ui.specs.Around.{alone};
-ghost use Rattle.xf_ui.specs.Cases.{cases_of, place_of_case as case_place};
-ghost use Rattle.xf_ui.specs.Labels.{words_of};
-ghost use Rattle.xf_form_machine.specs.Primitives.{spend as spent, set_text as text_set, add_note as noted, copy as copied, attach as attached, detach as detached, in_model, refresh_due, set_case as case_set};
-ghost use Rattle.xf_form_machine.specs.Properties.{readonly_in};
-ghost use Rattle.xf_form_machine.specs.Acting.{acting as acts, binding_of, truth_for, text_for, whole_for};
-ghost use Rattle.xf_form_machine.specs.Choose.{named_copy as copy_named, set_index as index_set, switch_number};
-ghost use Rattle.xf_form_machine.specs.Events.{fired as fires, fired_at as fires_at, model_element as element_of_model, submission_element as element_of_submission};
-ghost use Rattle.xf_form_machine.specs.Telling.{loaded_text};
-ghost use Rattle.xf_form_machine.specs.Behave.{model_at, rebuild as rebuilt, recalculate as recalculated, revalidate as revalidated};
-ghost use Rattle.xf_form_machine.specs.Update.{reindex as reindexed, is_due as due, is_refresh_due as refresh_is_due};
+ghost use Rattle.xf_def_ui.specs.Calls.{calls as called_by};
+ghost use Rattle.xf_def_machine.specs.Refusal.{budget};
+ghost use Rattle.xf_def_machine.specs.Surround.{interface, instance_holding as holding_instance};
+ghost use Rattle.xf_def_machine.specs.Tables.{insert_by};
+ghost use Rattle.xf_def_model.specs.Places.{planned_insert as insert_planned};
+ghost use Rattle.xf_def_model.specs.Taken.{planned_delete as delete_planned};
+ghost use Rattle.xf_def_machine.specs.Insert.{moved_focus, set_asked, origin_asked, at_asked as at_inserted, asked_with as insert_asked, location_of, insert_told};
+ghost use Rattle.xf_def_machine.specs.Delete.{at_asked as at_deleted, asked_with as delete_asked, location_of as delete_location, delete_told};
+ghost use Rattle.xf_def_ui.specs.Elements.{actions_in, element_at};
+ghost use Rattle.xf_def_ui.specs.Around.{alone};
+ghost use Rattle.xf_def_ui.specs.Cases.{cases_of, place_of_case as case_place};
+ghost use Rattle.xf_def_ui.specs.Labels.{words_of};
+ghost use Rattle.xf_def_machine.specs.Primitives.{spend as spent, set_text as text_set, add_note as noted, copy as copied, attach as attached, detach as detached, in_model, refresh_due, set_case as case_set};
+ghost use Rattle.xf_def_machine.specs.Properties.{readonly_in};
+ghost use Rattle.xf_def_machine.specs.Acting.{acting as acts, binding_of, truth_for, text_for, whole_for};
+ghost use Rattle.xf_def_machine.specs.Choose.{named_copy as copy_named, set_index as index_set, switch_number};
+ghost use Rattle.xf_def_machine.specs.Events.{fired as fires, fired_at as fires_at, model_element as element_of_model, submission_element as element_of_submission};
+ghost use Rattle.xf_def_machine.specs.Telling.{loaded_text};
+ghost use Rattle.xf_def_machine.specs.Behave.{model_at, rebuild as rebuilt, recalculate as recalculated, revalidate as revalidated};
+ghost use Rattle.xf_def_machine.specs.Update.{reindex as reindexed, is_due as due, is_refresh_due as refresh_is_due};
 ghost use Rattle.xf_actions.specs.Performs.{Runs, Makes, Reads, LeavesOver};
 ghost use Rattle.xf_actions.specs.Seen.{IsProgram, fired_of, acting_of, focus_of, place_of, concluded_of, ending_of};
 ghost use Rattle.xf_actions.specs.Told.{cleared_by, is_set, refreshed};
 ghost use Rattle.xf_actions.specs.TreeChanges.{instance_event};
 ghost use Rattle.xf_actions.specs.Defaulted.{submitted, told_by_end};
-ghost use Rattle.xf_form_machine.specs.Construct.{construct, instances_of, put_back as instance_put_back};
+ghost use Rattle.xf_def_machine.specs.Construct.{construct, instances_of, put_back as instance_put_back};
 ghost use Rattle.xf_actions.specs.Texts.{bound_for, message_text, settable};
 
 use crate::acting::Acting;
@@ -36,12 +36,12 @@ use crate::fault::WorldFault;
 use crate::fired::{Concluded, Ending, Fired, FiredList};
 use crate::place::{Inserting, PlaceList};
 use std::alloc::Global;
-use xf_ast::{ElementList, Expr, Form, InsertWork};
-use xf_doc::{NodeId, NodeList};
-use xf_form_machine::Note;
+use xf_def_forest::{NodeId, NodeList};
+use xf_def_machine::Note;
+use xf_def_syntax::{ElementList, Expr, Form, InsertWork};
+use xf_def_ui::{CallList, Focus};
 use xf_name::Word;
 use xf_store::Store;
-use xf_ui::{CallList, Focus};
 
 /// A behaviour of a model (XForms 1.1, section 4.3).
 #[derive(Clone, Copy, Debug, PartialEq, Eq)]
@@ -54,8 +54,8 @@ pub enum Flag {
 
 /// The form machine, whoever keeps its state.
 pub trait World {
-    ghost use Rattle.xf_form_machine.specs.Profile.{Profile};
-    ghost use Rattle.xf_form_machine.specs.State.{State};
+    ghost use Rattle.xf_def_machine.specs.Profile.{Profile};
+    ghost use Rattle.xf_def_machine.specs.State.{State};
 
     type Fault: WorldFault;
 

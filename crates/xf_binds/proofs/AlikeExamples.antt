@@ -1,11 +1,11 @@
 -- Which values give nodes the same properties, on a few entries.
 use Rattle.std.proofs.Common.{ℕ, true, false, [], ◌∷◌, Some, None, refl, codes}
-use Rattle.xf_lang.specs.declared.value.Value.{Value}
-use Rattle.xf_lang.specs.declared.value.Value.TheVariants.{Text, Truth}
-use Rattle.xf_model.specs.declared.property.Property.{Property}
-use Rattle.xf_model.specs.declared.property.Property.TheVariants.{Calculate, Readonly, Relevant, Constraint}
-use Rattle.xf_model.specs.Applied.{Entry}
-use Rattle.xf_model.specs.Settled.{Valued}
+use Rattle.xf_def_xpath.specs.declared.value.Value.{Value}
+use Rattle.xf_def_xpath.specs.declared.value.Value.TheVariants.{Text, Truth}
+use Rattle.xf_def_model.specs.declared.property.Property.{Property}
+use Rattle.xf_def_model.specs.declared.property.Property.TheVariants.{Calculate, Readonly, Relevant, Constraint}
+use Rattle.xf_def_model.specs.Applied.{Entry}
+use Rattle.xf_def_model.specs.Settled.{Valued}
 use Rattle.xf_binds.specs.Alike.{AreAlike}
 
 abbrev entry : ℕ → Property → Entry

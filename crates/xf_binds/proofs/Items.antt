@@ -4,13 +4,13 @@ use Rattle.std.specs.List.{list_any}
 use Rattle.std.proofs.lemmas.Option.{slice_get-map, slice_get_read}
 use Rattle.std.proofs.lemmas.List.{length-map, map-append}
 use Rattle.indexmap.specs.IndexMap.{IndexMap, get}
-use Rattle.xf_model.specs.declared.property.Property.{Property}
-use Rattle.xf_model.specs.declared.property.Property.TheVariants.{Kind}
-use Rattle.xf_model.specs.Applied as applied
-use Rattle.xf_model.specs.Applied.{is_property, sets_same}
-use Rattle.xf_model.specs.Entries.{is_computed}
-use Rattle.xf_model.specs.Settled.{Valued}
-use Rattle.xf_model.specs.Properties.{sets_on}
+use Rattle.xf_def_model.specs.declared.property.Property.{Property}
+use Rattle.xf_def_model.specs.declared.property.Property.TheVariants.{Kind}
+use Rattle.xf_def_model.specs.Applied as applied
+use Rattle.xf_def_model.specs.Applied.{is_property, sets_same}
+use Rattle.xf_def_model.specs.Entries.{is_computed}
+use Rattle.xf_def_model.specs.Settled.{Valued}
+use Rattle.xf_def_model.specs.Properties.{sets_on}
 use Rattle.xf_binds.specs.declared.entry.Entry.{Entry}
 use Rattle.xf_binds.specs.declared.entry.Item.{Item}
 use Rattle.xf_binds.specs.declared.entry.Seats.{Seats}

@@ -6,8 +6,8 @@ use Rattle.std.proofs.lemmas.Bool.Decides.{nat_tests}
 use Rattle.std.specs.HashSet.{contains}
 use Rattle.std.specs.List.{list_any}
 use Rattle.indexmap.specs.IndexSet.{IndexSet}
-use Rattle.xf_doc.specs.declared.node.NodeId.{NodeId}
-use Rattle.xf_doc.specs.Visit.{has}
+use Rattle.xf_def_forest.specs.declared.node.NodeId.{NodeId}
+use Rattle.xf_def_forest.specs.Visit.{has}
 
 abbrev pub numbers_of : List NodeId → List ℕ
 numbers_of ids = map (λ n. n.number) ids

@@ -4,11 +4,11 @@ use Rattle.std.specs.Prelude.{filter}
 use Rattle.std.specs.List.{list_any}
 use Rattle.std.proofs.lemmas.Bool.{eqb-true}
 use Rattle.std.proofs.lemmas.Bool.Decides.{nat_tests}
-use Rattle.xf_model.specs.Applied as applied
-use Rattle.xf_model.specs.Applied.{is_property}
-use Rattle.xf_model.specs.Entries.{is_computed}
-use Rattle.xf_model.specs.Pertinent.{is_same}
-use Rattle.xf_model.specs.Settled.{Valued}
+use Rattle.xf_def_model.specs.Applied as applied
+use Rattle.xf_def_model.specs.Applied.{is_property}
+use Rattle.xf_def_model.specs.Entries.{is_computed}
+use Rattle.xf_def_model.specs.Pertinent.{is_same}
+use Rattle.xf_def_model.specs.Settled.{Valued}
 use Rattle.xf_binds.specs.declared.entry.Item.{Item}
 use Rattle.xf_binds.specs.Held.{Held, IsOnly, entries_in, entry_of, held_of, held_on, holds, is_seat, passes}
 use Rattle.xf_binds.specs.Kept.{entries_of, valued_in, valued_of}

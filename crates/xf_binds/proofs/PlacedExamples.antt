@@ -1,8 +1,8 @@
 -- The places of calculates among those of their model, on a few entries.
 use Rattle.std.proofs.Common.{◌≡◌, ℕ, List, [], ◌∷◌, refl}
-use Rattle.xf_model.specs.declared.property.Property.{Property}
-use Rattle.xf_model.specs.declared.property.Property.TheVariants.{Calculate, Readonly, Relevant, Kind}
-use Rattle.xf_model.specs.Applied.{Entry}
+use Rattle.xf_def_model.specs.declared.property.Property.{Property}
+use Rattle.xf_def_model.specs.declared.property.Property.TheVariants.{Calculate, Readonly, Relevant, Kind}
+use Rattle.xf_def_model.specs.Applied.{Entry}
 use Rattle.xf_binds.specs.Placed.{placed_from, places_from}
 
 abbrev entry : ℕ → Property → Entry

@@ -4,10 +4,10 @@ use Rattle.std.specs.List.{list_any}
 use Rattle.std.proofs.lemmas.Bool.Decides.{nat_tests}
 use Rattle.std.proofs.lemmas.Bool.{eqb-true}
 use Rattle.indexmap.specs.IndexMap.{IndexMap, get}
-use Rattle.xf_model.specs.declared.property.Property.{Property}
-use Rattle.xf_model.specs.declared.property.Property.TheVariants.{Kind, Calculate, Relevant, Readonly, Required, Constraint}
-use Rattle.xf_model.specs.Applied as applied
-use Rattle.xf_model.specs.Applied.{is_property, sets_same}
+use Rattle.xf_def_model.specs.declared.property.Property.{Property}
+use Rattle.xf_def_model.specs.declared.property.Property.TheVariants.{Kind, Calculate, Relevant, Readonly, Required, Constraint}
+use Rattle.xf_def_model.specs.Applied as applied
+use Rattle.xf_def_model.specs.Applied.{is_property, sets_same}
 use Rattle.xf_binds.specs.declared.entry.Seats.{Seats}
 use Rattle.xf_binds.specs.Held.{AreSet, Held, IsSeated, entries_in, held_as, held_at, held_on, held_same, is_seat, is_set, newly_held, no_seats, passes, seat_in, seat_of, seats_or, seats_with}
 use Rattle.xf_binds.proofs.Finds.{false-true, find-none, find-one, kept_if}

@@ -2,12 +2,12 @@
 use Rattle.std.proofs.Common.{◌≡◌, ℕ, zero, suc, ◌+◌, ◌<◌, ◌≤◌, ◌==◌, Bool, true, false, cond, ◌&&◌, List, [], ◌∷◌, ◌++◌, map, length, take, Option, Some, None, option_map, slice_get, refl, sym, ap, ◌∙◌, arith}
 use Rattle.std.proofs.lemmas.Bool.{eqb-true}
 use Rattle.std.proofs.lemmas.List.{append-nil, append_assoc}
-use Rattle.xf_lang.proofs.VisitFacts.{none-some, some-same}
-use Rattle.xf_model.specs.declared.property.Property.TheVariants.{Calculate}
-use Rattle.xf_model.specs.Applied.{Entry, is_calculate, is_property}
-use Rattle.xf_model.specs.Pertinent.{AllOf}
-use Rattle.xf_model.specs.Properties.{sets_on}
-use Rattle.xf_model.specs.Settled.{calculates}
+use Rattle.xf_def_xpath.proofs.VisitFacts.{none-some, some-same}
+use Rattle.xf_def_model.specs.declared.property.Property.TheVariants.{Calculate}
+use Rattle.xf_def_model.specs.Applied.{Entry, is_calculate, is_property}
+use Rattle.xf_def_model.specs.Pertinent.{AllOf}
+use Rattle.xf_def_model.specs.Properties.{sets_on}
+use Rattle.xf_def_model.specs.Settled.{calculates}
 use Rattle.xf_binds.specs.Held.{place_on}
 use Rattle.xf_binds.specs.Placed.{Placed, is_calculate_at, place_after, placed_at, placed_from, placed_on, places_from}
 use Rattle.xf_binds.proofs.Finds.{false-true}

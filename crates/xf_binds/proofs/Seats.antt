@@ -2,7 +2,7 @@
 use Rattle.std.proofs.Common.{◌≡◌, ℕ, zero, suc, Bool, true, false, cond, List, [], ◌∷◌, Option, Some, None, option_map, slice_get, ◌==◌, refl, sym, ap, ◌∙◌, arith}
 use Rattle.std.proofs.lemmas.Bool.{eqb-true}
 use Rattle.std.proofs.lemmas.Bool.Decides.{nat_tests}
-use Rattle.xf_model.specs.declared.property.Property.{Property}
+use Rattle.xf_def_model.specs.declared.property.Property.{Property}
 use Rattle.xf_binds.specs.Held.{Held, entries_in, held_on, is_seat, passes, place_on}
 use Rattle.xf_binds.proofs.Finds.{false-true}
 

@@ -1,9 +1,9 @@
 -- What is kept after a rebuild, a recalculation and a commit, by what came before.
 use Rattle.std.proofs.Common.{◌≡◌, ℕ, true, false, cond, List, [], ◌∷◌, map, filter, Option, None, take, length, refl, sym, ap, ◌∙◌}
 use Rattle.std.specs.Prelude.{Bool, unwrap_or}
-use Rattle.xf_model.specs.Applied as applied
-use Rattle.xf_model.specs.Entries.{is_computed}
-use Rattle.xf_model.specs.Settled.{Valued}
+use Rattle.xf_def_model.specs.Applied as applied
+use Rattle.xf_def_model.specs.Entries.{is_computed}
+use Rattle.xf_def_model.specs.Settled.{Valued}
 use Rattle.xf_binds.specs.declared.web.Asks.{Asks}
 use Rattle.xf_binds.specs.declared.kept.Since.{Since}
 use Rattle.xf_binds.specs.declared.kept.Since.TheVariants.{Nothing, Told, Built, ToldBuilt, BuiltTold, Past}

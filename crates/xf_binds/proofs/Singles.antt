@@ -5,12 +5,12 @@ use Rattle.std.proofs.lemmas.Bool.{eqb-true}
 use Rattle.std.proofs.lemmas.Bool.Decides.{nat_tests}
 use Rattle.std.proofs.lemmas.Option.{slice_get-map}
 use Rattle.indexmap.specs.IndexMap.{IndexMap, get}
-use Rattle.xf_model.specs.declared.property.Property.{Property}
-use Rattle.xf_model.specs.declared.property.Property.TheVariants.{Kind, Calculate, Relevant, Readonly, Required, Constraint}
-use Rattle.xf_model.specs.Applied as applied
-use Rattle.xf_model.specs.Applied.{is_property}
-use Rattle.xf_model.specs.Entries.{is_computed}
-use Rattle.xf_model.specs.Properties.{sets_on}
+use Rattle.xf_def_model.specs.declared.property.Property.{Property}
+use Rattle.xf_def_model.specs.declared.property.Property.TheVariants.{Kind, Calculate, Relevant, Readonly, Required, Constraint}
+use Rattle.xf_def_model.specs.Applied as applied
+use Rattle.xf_def_model.specs.Applied.{is_property}
+use Rattle.xf_def_model.specs.Entries.{is_computed}
+use Rattle.xf_def_model.specs.Properties.{sets_on}
 use Rattle.xf_binds.specs.declared.entry.Item.{Item}
 use Rattle.xf_binds.specs.declared.entry.Seats.{Seats}
 use Rattle.xf_binds.specs.Held.{AreSingle, Held, IsOnly, IsSeated, entries_in, held_of, held_on, holds, is_seat, passes, place_on, seat_in}

@@ -5,12 +5,12 @@ use Rattle.std.proofs.Math.ListN.{set}
 use Rattle.std.proofs.Math.Seq.{take-suc-set}
 use Rattle.std.proofs.lemmas.Option.{slice_get-map, slice_get_read}
 use Rattle.indexmap.specs.IndexMap.{IndexMap}
-use Rattle.xf_model.specs.declared.property.Property.{Property}
-use Rattle.xf_model.specs.Applied as applied
-use Rattle.xf_model.specs.Properties.{sets_on}
+use Rattle.xf_def_model.specs.declared.property.Property.{Property}
+use Rattle.xf_def_model.specs.Applied as applied
+use Rattle.xf_def_model.specs.Properties.{sets_on}
 use Rattle.xf_binds.specs.declared.entry.Item.{Item}
 use Rattle.xf_binds.specs.declared.entry.Seats.{Seats}
-use Rattle.xf_model.specs.Entries.{is_computed}
+use Rattle.xf_def_model.specs.Entries.{is_computed}
 use Rattle.xf_binds.specs.Held.{AreSet, Held, IsSeated, entries_in, entry_of, held_by, held_of, held_on, holds, is_seat, is_set, passes}
 use Rattle.xf_binds.specs.Kept.{truth_from, valued_in}
 use Rattle.xf_binds.proofs.Items.{seat-there}

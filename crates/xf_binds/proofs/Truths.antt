@@ -1,16 +1,16 @@
 -- What is told of one property of one node is what the values of the entries say.
 use Rattle.std.proofs.Common.{◌≡◌, ℕ, Bool, true, false, not, ◌&&◌, List, [], ◌∷◌, filter, find, Option, Some, None, option_map, option_and_then, is_some, ◌==◌, refl, sym, ap, ◌∙◌}
 use Rattle.std.proofs.lemmas.Bool.{eqb-true}
-use Rattle.xf_lang.specs.declared.value.Value.{Value}
-use Rattle.xf_lang.specs.declared.value.Value.TheVariants.{Truth}
-use Rattle.xf_lang.specs.Conversions.{truth_of}
-use Rattle.xf_model.specs.declared.property.Property.{Property}
-use Rattle.xf_model.specs.declared.property.Property.TheVariants.{Kind}
-use Rattle.xf_model.specs.Applied.{Entry, place_of, is_property}
-use Rattle.xf_model.specs.Entries.{is_computed}
-use Rattle.xf_model.specs.Settled.{Valued}
-use Rattle.xf_model.specs.Pertinent.{is_same}
-use Rattle.xf_model.specs.Properties.{sets_on, has_own, own, truth_or}
+use Rattle.xf_def_xpath.specs.declared.value.Value.{Value}
+use Rattle.xf_def_xpath.specs.declared.value.Value.TheVariants.{Truth}
+use Rattle.xf_def_xpath.specs.Conversions.{truth_of}
+use Rattle.xf_def_model.specs.declared.property.Property.{Property}
+use Rattle.xf_def_model.specs.declared.property.Property.TheVariants.{Kind}
+use Rattle.xf_def_model.specs.Applied.{Entry, place_of, is_property}
+use Rattle.xf_def_model.specs.Entries.{is_computed}
+use Rattle.xf_def_model.specs.Settled.{Valued}
+use Rattle.xf_def_model.specs.Pertinent.{is_same}
+use Rattle.xf_def_model.specs.Properties.{sets_on, has_own, own, truth_or}
 use Rattle.xf_binds.specs.Held.{Held, held_as, held_same}
 use Rattle.xf_binds.specs.Kept.{Kept, truth_from, truth_in, value_from, valued_in, valued_of, values_in, values_of}
 use Rattle.xf_binds.specs.Table.{truth_among, truth_told, unless_told}

@@ -1,10 +1,10 @@
 -- A property that no entry sets.
 use Rattle.std.specs.List.{list_any}
 use Rattle.std.proofs.Common.{◌≡◌, ℕ, zero, suc, Bool, true, false, cond, ◌&&◌, ◌||◌, ◌==◌, List, [], ◌∷◌, find, Option, Some, None, option_map, is_some, slice_get, refl, sym, ap, ◌∙◌}
-use Rattle.xf_model.specs.declared.property.Property.{Property}
-use Rattle.xf_model.specs.Applied as applied
-use Rattle.xf_model.specs.Applied.{is_property}
-use Rattle.xf_model.specs.Properties.{sets_on}
+use Rattle.xf_def_model.specs.declared.property.Property.{Property}
+use Rattle.xf_def_model.specs.Applied as applied
+use Rattle.xf_def_model.specs.Applied.{is_property}
+use Rattle.xf_def_model.specs.Properties.{sets_on}
 use Rattle.xf_binds.specs.declared.entry.Seats.{Seats}
 use Rattle.xf_binds.specs.Held.{AreSet, Held, entries_in, held_on, is_set, passes, place_on, seat_of}
 use Rattle.xf_binds.specs.Kept.{Kept, truth_from, truth_in}

@@ -1,9 +1,9 @@
 -- Values by which nodes have the same properties, validity apart (XForms 1.1, section 6.1).
 use Rattle.std.specs.Prelude.{◌≡◌, Bool, true, false, List, [], ◌∷◌, option_map}
-use Rattle.xf_lang.specs.Conversions.{truth_of}
-use Rattle.xf_model.specs.declared.property.Property.{Property}
-use Rattle.xf_model.specs.declared.property.Property.TheVariants.{Kind, Calculate, Relevant, Readonly, Required, Constraint}
-use Rattle.xf_model.specs.Settled.{Valued}
+use Rattle.xf_def_xpath.specs.Conversions.{truth_of}
+use Rattle.xf_def_model.specs.declared.property.Property.{Property}
+use Rattle.xf_def_model.specs.declared.property.Property.TheVariants.{Kind, Calculate, Relevant, Readonly, Required, Constraint}
+use Rattle.xf_def_model.specs.Settled.{Valued}
 
 -- the properties that are told of a node beside its validity; a calculate tells by being there
 abbrev pub is_shown : Property → Bool

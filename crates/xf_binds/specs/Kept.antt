@@ -1,14 +1,14 @@
 -- What is kept of the binds of each model from one recalculation to the next (XForms 1.1, sections 4.3.1 to 4.3.3).
 use Rattle.std.specs.Prelude.{ℕ, ◌≡◌, Bool, List, [], map, filter, find, Option, Some, None, option_map, option_and_then, slice_get, if◌then◌else◌}
 use Rattle.std.specs.List.{flat_map}
-use Rattle.xf_lang.specs.declared.value.Value.TheVariants.{Truth}
-use Rattle.xf_lang.specs.Conversions.{truth_of}
-use Rattle.xf_model.specs.declared.property.Property.{Property}
-use Rattle.xf_model.specs.Applied.{Entry}
-use Rattle.xf_model.specs.Entries.{is_computed}
-use Rattle.xf_model.specs.Settled.{Valued}
-use Rattle.xf_model.specs.Pertinent.{is_same}
-use Rattle.xf_model.specs.Properties.{sets_on}
+use Rattle.xf_def_xpath.specs.declared.value.Value.TheVariants.{Truth}
+use Rattle.xf_def_xpath.specs.Conversions.{truth_of}
+use Rattle.xf_def_model.specs.declared.property.Property.{Property}
+use Rattle.xf_def_model.specs.Applied.{Entry}
+use Rattle.xf_def_model.specs.Entries.{is_computed}
+use Rattle.xf_def_model.specs.Settled.{Valued}
+use Rattle.xf_def_model.specs.Pertinent.{is_same}
+use Rattle.xf_def_model.specs.Properties.{sets_on}
 use Rattle.xf_binds.specs.declared.web.Asks.{Asks}
 use Rattle.xf_binds.specs.Held.{Held, IsOnly, entries_in, held_by}
 

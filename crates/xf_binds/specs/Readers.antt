@@ -1,8 +1,8 @@
 -- Which entries read a node, by their places.
 use Rattle.std.specs.Prelude.{ℕ, ◌≡◌, Bool, false, List, [], Option, Some, None, nat_eq, slice_get}
 use Rattle.indexmap.specs.IndexMap.{IndexMap, get}
-use Rattle.xf_doc.specs.Visit.{has}
-use Rattle.xf_model.specs.Applied.{Entry}
+use Rattle.xf_def_forest.specs.Visit.{has}
+use Rattle.xf_def_model.specs.Applied.{Entry}
 use Rattle.xf_binds.specs.declared.web.Asks.{Asks}
 use Rattle.xf_binds.specs.Turns.{no_asks}
 

@@ -1,7 +1,7 @@
 -- What is kept of all models, each by its number.
 use Rattle.std.specs.Prelude.{ℕ, Bool, List, [], ◌∷◌, map, get_or, slice_set, Option, Some, None}
-use Rattle.xf_model.specs.declared.property.Property.{Property}
-use Rattle.xf_model.specs.Applied.{Entry}
+use Rattle.xf_def_model.specs.declared.property.Property.{Property}
+use Rattle.xf_def_model.specs.Applied.{Entry}
 use Rattle.xf_binds.specs.declared.web.Asks.{Asks}
 use Rattle.xf_binds.specs.Held.{Held, entries_in}
 use Rattle.xf_binds.specs.Kept.{Kept, committed, no_kept, rolled_back, truth_in}

@@ -2,11 +2,11 @@
 -- and by what they ask: where these nodes stand in the data does not count.
 use Rattle.std.specs.Prelude.{ℕ, ◌≡◌, Bool, true, false, List, [], ◌∷◌, map, filter, if◌then◌else◌}
 use Rattle.std.specs.List.{list_any}
-use Rattle.xf_doc.specs.Visit.{has}
-use Rattle.xf_lang.specs.Agree.{are_apart}
-use Rattle.xf_model.specs.declared.property.Property.TheVariants.{Calculate}
-use Rattle.xf_model.specs.Applied.{Entry, is_calculate}
-use Rattle.xf_model.specs.Properties.{sets_on}
+use Rattle.xf_def_forest.specs.Visit.{has}
+use Rattle.xf_def_xpath.specs.Agree.{are_apart}
+use Rattle.xf_def_model.specs.declared.property.Property.TheVariants.{Calculate}
+use Rattle.xf_def_model.specs.Applied.{Entry, is_calculate}
+use Rattle.xf_def_model.specs.Properties.{sets_on}
 use Rattle.xf_binds.specs.declared.web.Asks.{Asks}
 
 -- a type asks nothing

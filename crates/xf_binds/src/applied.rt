@@ -3,11 +3,11 @@
 ghost use Rattle.std.specs.Prelude.{◌≡◌, ℕ, nat_eq, ◌∷◌, [], ◌++◌, find, is_some, length, not, option_map, true, slice_get, Option, Some, None, IfOk, IfSome, OnOk, IsTrue, ◌↔◌};
 ghost use Rattle.std.specs.Bool.{OnTrue, OnFalse};
 ghost use Rattle.std.specs.List.{list_any};
-ghost use Rattle.xf_model.specs.Applied.{sets_same};
-ghost use Rattle.xf_model.specs.Entries.{is_computed};
-ghost use Rattle.xf_model.specs.Properties.{sets_on};
+ghost use Rattle.xf_def_model.specs.Applied.{sets_same};
+ghost use Rattle.xf_def_model.specs.Entries.{is_computed};
+ghost use Rattle.xf_def_model.specs.Properties.{sets_on};
 ghost use Rattle.xf_binds.specs.Kept.{truth_from, valued_in};
-ghost use Rattle.xf_model.specs.Applied as applied;
+ghost use Rattle.xf_def_model.specs.Applied as applied;
 ghost use Rattle.xf_binds.specs.Held.{AreNear, AreSingle, IsOnly, entries_in, entry_of, held_at, held_by, held_of, held_on, held_same, holds, is_seat, is_set, newly_held, passes, place_on, seat_in, seats_or};
 ghost use Rattle.indexmap.specs.IndexMap.{get};
 
@@ -16,8 +16,8 @@ use crate::truth_list::TruthList;
 use indexmap::IndexMap;
 use std::alloc::{AllocError, Global};
 use std::marker::Model;
-use xf_doc::NodeId;
-use xf_model::Property;
+use xf_def_forest::NodeId;
+use xf_def_model::Property;
 
 /// So many numbers of nodes to each entry are found without hashing.
 const NEAR: u128 = 16;

@@ -4,8 +4,8 @@ ghost use Rattle.std.specs.Prelude.{◌≡◌, option_map};
 ghost use Rattle.xf_binds.specs.Held.{entry_of, no_seats, seat_of, seats_with};
 ghost use Rattle.xf_binds.specs.Placed.{is_calculate_at};
 
-use xf_doc::NodeId;
-use xf_model::Property;
+use xf_def_forest::NodeId;
+use xf_def_model::Property;
 
 /// A property of one node, with its expression or type, which it has from one attribute of one bind.
 #[derive(Clone, Copy, Debug)]

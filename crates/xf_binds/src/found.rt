@@ -2,16 +2,16 @@
 
 ghost use Rattle.std.specs.Prelude.{◌≡◌, None, Some, get_or, slice_get, true};
 ghost use Rattle.std.specs.Bool.{OnFalse, OnTrue};
-ghost use Rattle.xf_doc.specs.Visit.{has};
-ghost use Rattle.xf_model.specs.Applied as applied;
+ghost use Rattle.xf_def_forest.specs.Visit.{has};
+ghost use Rattle.xf_def_model.specs.Applied as applied;
 ghost use Rattle.xf_binds.specs.Alike.{AreAlike, is_shown};
 ghost use Rattle.xf_binds.specs.Kept.{recalculated, truth_at, values_of};
 
 use crate::kept::Kept;
 use crate::node_set::NodeSet;
 use crate::truth_list::TruthList;
-use xf_doc::NodeId;
-use xf_model::Property;
+use xf_def_forest::NodeId;
+use xf_def_model::Property;
 
 impl Kept {
     /// Whether the last revalidation found the node not valid.

@@ -2,10 +2,10 @@
 
 ghost use Rattle.std.specs.Prelude.{◌≡◌, ℕ, List, [], ◌∷◌, ◌++◌, None, Option, Some, false, true, filter, find, is_some, length, option_map, slice_get, unwrap_or, OnOk, OnErr};
 ghost use Rattle.std.specs.Bool.{OnFalse, OnTrue};
-ghost use Rattle.xf_model.specs.Applied.{is_property};
-ghost use Rattle.xf_model.specs.Entries.{is_computed};
-ghost use Rattle.xf_model.specs.Properties.{sets_on};
-ghost use Rattle.xf_model.specs.Applied as applied;
+ghost use Rattle.xf_def_model.specs.Applied.{is_property};
+ghost use Rattle.xf_def_model.specs.Entries.{is_computed};
+ghost use Rattle.xf_def_model.specs.Properties.{sets_on};
+ghost use Rattle.xf_def_model.specs.Applied as applied;
 ghost use Rattle.xf_binds.specs.Held.{AreSingle, Held, IsOnly, entries_in, entry_of, is_set};
 ghost use Rattle.xf_binds.specs.Kept.{IsAlone, committed, entries_of, no_kept, recalculated, rolled_back, stood_of, told_of, truth_at, truth_from, truth_in};
 ghost use Rattle.xf_binds.specs.Placed.{AreInOrder};
@@ -23,8 +23,8 @@ use crate::web::Web;
 use std::alloc::{AllocError, Global};
 use std::marker::Model;
 use std::mem::{replace, swap};
-use xf_doc::{NodeId, NodeList};
-use xf_model::Property;
+use xf_def_forest::{NodeId, NodeList};
+use xf_def_model::Property;
 
 /// What came of entries since the last commit.
 #[derive(Drop)]

@@ -2,12 +2,12 @@
 
 ghost use Rattle.std.specs.Prelude.{◌≡◌, [], map, IfOk};
 ghost use Rattle.std.specs.Bool.{OnFalse, OnTrue};
-ghost use Rattle.xf_doc.specs.Visit.{has};
+ghost use Rattle.xf_def_forest.specs.Visit.{has};
 
 use indexmap::IndexSet;
 use std::alloc::{AllocError, Global};
 use std::marker::Model;
-use xf_doc::{NodeId, NodeList};
+use xf_def_forest::{NodeId, NodeList};
 
 /// So many nodes are passed one by one sooner than a number is hashed.
 const FEW: usize = 8;

@@ -15,7 +15,7 @@ use crate::web::Web;
 use indexmap::IndexMap;
 use std::alloc::{AllocError, Global};
 use std::marker::Model;
-use xf_doc::NodeList;
+use xf_def_forest::NodeList;
 
 /// What a rebuild gave: entries, what each of them asks of the data, and the calculates, none before one that it reads. Contracts see no
 /// order, since there may be others. Who reads a node is found by the node: so a change costs what it reaches.

@@ -1,7 +1,7 @@
 //! Which entries read a node, found by the node.
 
 ghost use Rattle.std.specs.Prelude.{◌≡◌, ◌==◌, ℕ, ◌&&◌, ◌||◌, map, IfOk, OnOk};
-ghost use Rattle.xf_doc.specs.Visit.{has};
+ghost use Rattle.xf_def_forest.specs.Visit.{has};
 ghost use Rattle.xf_binds.specs.Held.{entries_in};
 ghost use Rattle.xf_binds.specs.Readers.{TellsReaders, readers_at};
 
@@ -10,7 +10,7 @@ use crate::web::Web;
 use indexmap::IndexMap;
 use std::alloc::{AllocError, Global};
 use xf_base::Items;
-use xf_doc::NodeId;
+use xf_def_forest::NodeId;
 
 /// Places of entries, each from 0.
 pub type PlaceList = Items<usize>;

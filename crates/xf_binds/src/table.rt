@@ -3,11 +3,11 @@
 ghost use Rattle.std.specs.Prelude.{◌≡◌, ◌<◌, ◌-◌, ◌^◌, ℕ, [], ◌∷◌, ◌++◌, Some, None, false, true, filter, find, is_some, length, min, replicate, option_map, slice_get, slice_index_or, IfOk, OnOk, OnErr};
 ghost use Rattle.std.specs.Bool.{OnFalse, OnTrue};
 ghost use Rattle.std.specs.List.{list_any};
-ghost use Rattle.xf_doc.specs.Visit.{has};
-ghost use Rattle.xf_model.specs.Applied as applied;
-ghost use Rattle.xf_model.specs.Applied.{is_property};
-ghost use Rattle.xf_model.specs.Entries.{is_computed};
-ghost use Rattle.xf_model.specs.Properties.{sets_on};
+ghost use Rattle.xf_def_forest.specs.Visit.{has};
+ghost use Rattle.xf_def_model.specs.Applied as applied;
+ghost use Rattle.xf_def_model.specs.Applied.{is_property};
+ghost use Rattle.xf_def_model.specs.Entries.{is_computed};
+ghost use Rattle.xf_def_model.specs.Properties.{sets_on};
 ghost use Rattle.xf_binds.specs.Asked.{asked_by_all, asked_of, asking};
 ghost use Rattle.xf_binds.specs.Held.{AreSingle, IsOnly, entries_in, entry_of, is_set};
 ghost use Rattle.xf_binds.specs.Alike.{AreAlike};
@@ -27,8 +27,8 @@ use crate::turns::Turn;
 use crate::web::{Asks, Web};
 use std::alloc::{AllocError, Global};
 use std::marker::Model;
-use xf_doc::{NodeId, NodeList};
-use xf_model::Property;
+use xf_def_forest::{NodeId, NodeList};
+use xf_def_model::Property;
 
 /// What the binds of each model set, the values of these entries, the nodes that are not valid, and the marks of what has changed
 /// since the last recalculation.

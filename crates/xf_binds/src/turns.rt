@@ -1,16 +1,16 @@
 //! The turns of the calculates of a model, by an order of their nodes (XForms 1.1, section 4.3.2 and appendix C).
 
 ghost use Rattle.std.specs.Prelude.{◌≡◌, ◌++◌, List, Some, map, option_map, slice_get, IfOk, OnOk};
-ghost use Rattle.xf_model.specs.Applied as seen;
-ghost use Rattle.xf_model.specs.Pertinent.{AllOf};
+ghost use Rattle.xf_def_model.specs.Applied as seen;
+ghost use Rattle.xf_def_model.specs.Pertinent.{AllOf};
 ghost use Rattle.xf_binds.specs.Held.{entries_in, entry_of, place_on};
 ghost use Rattle.xf_binds.specs.Placed.{IsSeatedIn, is_calculate_at, placed_at, placed_from, placed_of, placed_on, places_from};
 
 use crate::applied::Applied;
 use crate::entry::{Entry, is_calculate};
 use std::alloc::{AllocError, Global};
-use xf_doc::{NodeId, NodeList};
-use xf_model::Property;
+use xf_def_forest::{NodeId, NodeList};
+use xf_def_model::Property;
 
 /// A calculate with how many others stand before it among the entries of its model, and with its own place among these, each from 0.
 #[derive(Clone, Copy, Debug)]

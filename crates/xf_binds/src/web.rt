@@ -5,7 +5,7 @@ ghost use Rattle.xf_binds.specs.Asked.{asked_of};
 
 use std::alloc::{AllocError, Global};
 use std::marker::Model;
-use xf_doc::NodeList;
+use xf_def_forest::NodeList;
 
 /// What an entry asks: the nodes that it reads, those at whose list it looks, and the ancestors of its own node. A type asks nothing.
 #[derive(Drop)]

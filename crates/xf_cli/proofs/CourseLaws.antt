@@ -3,11 +3,11 @@ use Rattle.std.proofs.Common.{◌≡◌, ◌+◌, ◌∙◌, ℕ, Bool, true, fa
 use Rattle.xf_line.specs.declared.event.Event.{Event}
 use Rattle.xf_store.specs.declared.answers.Answer.{Answer}
 use Rattle.xf_store.specs.declared.call.StoreCall.{StoreCall}
-use Rattle.xf_form_machine.specs.State.{State}
-use Rattle.xf_form_machine.specs.Step.{Outcome, accepted, refused, step}
-use Rattle.xf_form_machine.specs.Replies.{answers_in}
-use Rattle.xf_processor.specs.Formed.{profile}
-use Rattle.xf_history.specs.Runs.{Item}
+use Rattle.xf_def_machine.specs.State.{State}
+use Rattle.xf_def_machine.specs.Step.{Outcome, accepted, refused, step}
+use Rattle.xf_def_machine.specs.Replies.{answers_in}
+use Rattle.xf_def_form.specs.Formed.{profile}
+use Rattle.xf_def_sessions.specs.Runs.{Item}
 use Rattle.xf_cli.specs.Course.{Course, set_out, event_in, after_outcome, after_event, IsReplied, Replies, TakesEvent, Takes, Lacks, IsAccepted, FailsAt, full_limit, not_built_reply, where_full}
 
 -- what came of lines, behind what came before

@@ -5,29 +5,29 @@ use Rattle.std.specs.Io.KnownBytes.{Appends}
 use Rattle.std.proofs.KnownBytes.{Appends-nil, Appends-trans}
 use Rattle.xf_base.specs.Faults.{Rose}
 use Rattle.xf_io.specs.Front.{AppendsFront}
-use Rattle.xf_answers.specs.Answering.{Answered}
-use Rattle.xf_answers.specs.declared.lines.Ending.{Ending}
-use Rattle.xf_answers.specs.declared.lines.Ending.TheVariants as ending
-use Rattle.xf_answers.specs.Out.{IsSteady}
-use Rattle.xf_loader.specs.declared.fault.FormFault.TheVariants as fault
-use Rattle.xf_loader.specs.declared.loaded.Loaded.{Loaded}
-use Rattle.xf_loader.specs.Loading.{loaded_in}
-use Rattle.xf_history.specs.Usual.{loaded_program}
+use Rattle.xf_cli_stream.specs.Answering.{Answered}
+use Rattle.xf_cli_stream.specs.declared.lines.Ending.{Ending}
+use Rattle.xf_cli_stream.specs.declared.lines.Ending.TheVariants as ending
+use Rattle.xf_cli_stream.specs.Out.{IsSteady}
+use Rattle.xf_form.specs.declared.fault.FormFault.TheVariants as fault
+use Rattle.xf_form.specs.declared.loaded.Loaded.{Loaded}
+use Rattle.xf_form.specs.Loading.{loaded_in}
+use Rattle.xf_def_sessions.specs.Usual.{loaded_program}
 use Rattle.xf_session.specs.Beginning.{IsBuilt}
 use Rattle.xf_store.specs.declared.answers.Answer.{Answer}
 use Rattle.xf_store.specs.Called.{Called, Told}
 use Rattle.xf_store.proofs.CalledLaws.{called-none}
-use Rattle.xf_form_machine.specs.Program.{Program}
-use Rattle.xf_form_machine.specs.State.{State}
-use Rattle.xf_form_machine.specs.Refusal.{Refused}
-use Rattle.xf_form_machine.specs.Flow.{◌>>=◌}
-use Rattle.xf_form_machine.specs.Construct.{construct}
-use Rattle.xf_form_machine.specs.FormReplies.{construct_texts}
-use Rattle.xf_form_machine.specs.Start.{start, readied}
-use Rattle.xf_form_machine.specs.Step.{Posted, Outcome, outcome, at_end}
-use Rattle.xf_form_machine.specs.Replies.{answers_in, note_lines}
-use Rattle.xf_processor.specs.Formed.{program_in, profile}
-use Rattle.xf_work.specs.Standing.{Standing, state_of}
+use Rattle.xf_def_machine.specs.Program.{Program}
+use Rattle.xf_def_machine.specs.State.{State}
+use Rattle.xf_def_machine.specs.Refusal.{Refused}
+use Rattle.xf_def_machine.specs.Flow.{◌>>=◌}
+use Rattle.xf_def_machine.specs.Construct.{construct}
+use Rattle.xf_def_machine.specs.FormReplies.{construct_texts}
+use Rattle.xf_def_machine.specs.Start.{start, readied}
+use Rattle.xf_def_machine.specs.Step.{Posted, Outcome, outcome, at_end}
+use Rattle.xf_def_machine.specs.Replies.{answers_in, note_lines}
+use Rattle.xf_def_form.specs.Formed.{program_in, profile}
+use Rattle.xf_engine_state.specs.Standing.{Standing, state_of}
 use Rattle.xf_engine.specs.Stepped.{started, IsAccepted}
 use Rattle.xf_cli.specs.declared.status.Command.{Command}
 use Rattle.xf_cli.specs.declared.status.Command.TheVariants.{Run, Try, Show, Check}

@@ -1,9 +1,9 @@
 -- What is written is flushed, one part after another.
 use Rattle.std.proofs.Common.{◌≡◌, ◌≤◌, ◌∙◌, ℕ, arith, inl, inr, refl, subst, sym}
 use Rattle.xf_base.specs.Faults.{Rose}
-use Rattle.xf_answers.specs.declared.lines.Ending.{Ending}
-use Rattle.xf_answers.specs.declared.lines.Ending.TheVariants.{Done, ReadFault, SinkFault, DiskFault, TooMuch, Memory}
-use Rattle.xf_answers.specs.Out.{Taken, IsAllOut, IsOut, IsOutOrFailed, IsSteady}
+use Rattle.xf_cli_stream.specs.declared.lines.Ending.{Ending}
+use Rattle.xf_cli_stream.specs.declared.lines.Ending.TheVariants.{Done, ReadFault, SinkFault, DiskFault, TooMuch, Memory}
+use Rattle.xf_cli_stream.specs.Out.{Taken, IsAllOut, IsOut, IsOutOrFailed, IsSteady}
 
 pub out_again : (first mid last : Taken) → IsOut first mid → IsOut mid last → IsOut first last
 out_again first mid last before (inl same) = subst (IsOut first) (sym same) before

@@ -5,10 +5,10 @@ use Rattle.std.proofs.lemmas.Bool.Decides.{nat_tests}
 use Rattle.std.proofs.lemmas.List.{append-nil}
 use Rattle.xf_base.specs.Limits.{form_limit}
 use Rattle.xf_json.specs.Element.{lit_in}
-use Rattle.xf_loader.specs.declared.fault.FormFault.{FormFault}
-use Rattle.xf_loader.specs.declared.fault.FormFault.TheVariants.{Refused, Memory}
-use Rattle.xf_loader.specs.declared.loaded.Loaded.{Loaded}
-use Rattle.xf_loader.specs.Loading.{loaded_in, by_json}
+use Rattle.xf_form.specs.declared.fault.FormFault.{FormFault}
+use Rattle.xf_form.specs.declared.fault.FormFault.TheVariants.{Refused, Memory}
+use Rattle.xf_form.specs.declared.loaded.Loaded.{Loaded}
+use Rattle.xf_form.specs.Loading.{loaded_in, by_json}
 use Rattle.xf_cli.specs.Forms.{Give}
 use Rattle.xf_cli.specs.Finish.{GivesForm}
 

@@ -15,15 +15,15 @@ use Rattle.xf_store.specs.declared.answers.Answer.{Answer}
 use Rattle.xf_store.specs.declared.call.StoreCall.{StoreCall}
 use Rattle.xf_store.specs.Called.{Called, Told}
 use Rattle.xf_store.proofs.CalledLaws.{called-none}
-use Rattle.xf_form_machine.specs.State.{State}
-use Rattle.xf_form_machine.specs.ControlText.{state_text}
-use Rattle.xf_form_machine.specs.StateText.{line_of}
-use Rattle.xf_form_machine.specs.Replies.{Reply, without_event, answers_in, is_blank, ok_text, refusal_texts, reply, reply_outcome}
-use Rattle.xf_form_machine.specs.Step as machine
-use Rattle.xf_form_machine.specs.Step.{Outcome, Posted, accepted, refused, step}
-use Rattle.xf_form_machine.specs.declared.refusal.Refusal.{Refusal}
-use Rattle.xf_processor.specs.Formed.{profile}
-use Rattle.xf_history.specs.Runs.{Item, line}
+use Rattle.xf_def_machine.specs.State.{State}
+use Rattle.xf_def_machine.specs.ControlText.{state_text}
+use Rattle.xf_def_machine.specs.StateText.{line_of}
+use Rattle.xf_def_machine.specs.Replies.{Reply, without_event, answers_in, is_blank, ok_text, refusal_texts, reply, reply_outcome}
+use Rattle.xf_def_machine.specs.Step as machine
+use Rattle.xf_def_machine.specs.Step.{Outcome, Posted, accepted, refused, step}
+use Rattle.xf_def_machine.specs.declared.refusal.Refusal.{Refusal}
+use Rattle.xf_def_form.specs.Formed.{profile}
+use Rattle.xf_def_sessions.specs.Runs.{Item, line}
 use Rattle.xf_report.specs.Refusals.{refusal_text}
 use Rattle.xf_report.proofs.AnswerLaws.{tells-text}
 use Rattle.xf_session.specs.declared.fault.PostFault.{PostFault}

@@ -12,10 +12,10 @@ use Rattle.xf_line.specs.declared.fault.LineFault.{LineFault}
 use Rattle.xf_line.specs.declared.fault.LineFault.TheVariants as line_fault
 use Rattle.xf_line.specs.Line.{asked_by}
 use Rattle.xf_store.specs.declared.answers.Answer.{Answer}
-use Rattle.xf_form_machine.specs.State.{State}
-use Rattle.xf_form_machine.specs.Replies.{Reply, without_event, reply, reply_read, reply_outcome, is_blank}
-use Rattle.xf_form_machine.specs.Step.{step}
-use Rattle.xf_processor.specs.Formed.{profile}
+use Rattle.xf_def_machine.specs.State.{State}
+use Rattle.xf_def_machine.specs.Replies.{Reply, without_event, reply, reply_read, reply_outcome, is_blank}
+use Rattle.xf_def_machine.specs.Step.{step}
+use Rattle.xf_def_form.specs.Formed.{profile}
 use Rattle.xf_cli.specs.declared.line.Wants.{Wants}
 use Rattle.xf_cli.specs.declared.line.Wants.TheVariants as wants
 use Rattle.xf_cli.specs.Course.{event_asked, event_in}

@@ -13,18 +13,18 @@ use Rattle.xf_store.specs.declared.answers.Answer.{Answer}
 use Rattle.xf_store.specs.declared.call.StoreCall.{StoreCall}
 use Rattle.xf_store.specs.Replies.{has_failed}
 use Rattle.xf_store.specs.Called.{Called, Told, ListsAll, UsesAll}
-use Rattle.xf_form_machine.specs.Program.{Program}
-use Rattle.xf_form_machine.specs.State.{State}
-use Rattle.xf_form_machine.specs.ControlText.{state_text}
-use Rattle.xf_form_machine.specs.FormReplies.{ready_text}
-use Rattle.xf_form_machine.specs.Replies.{answers_in, note_lines}
-use Rattle.xf_form_machine.specs.Start.{start}
-use Rattle.xf_form_machine.specs.StateText.{line_of}
-use Rattle.xf_form_machine.specs.Told as meaning
-use Rattle.xf_form_machine.specs.declared.refusal.Refusal.{Refusal}
-use Rattle.xf_processor.specs.Formed.{profile}
-use Rattle.xf_history.specs.Runs.{Item}
-use Rattle.xf_history.specs.Opening.{Opened, opened, no_session, other_form, damaged}
+use Rattle.xf_def_machine.specs.Program.{Program}
+use Rattle.xf_def_machine.specs.State.{State}
+use Rattle.xf_def_machine.specs.ControlText.{state_text}
+use Rattle.xf_def_machine.specs.FormReplies.{ready_text}
+use Rattle.xf_def_machine.specs.Replies.{answers_in, note_lines}
+use Rattle.xf_def_machine.specs.Start.{start}
+use Rattle.xf_def_machine.specs.StateText.{line_of}
+use Rattle.xf_def_machine.specs.Told as meaning
+use Rattle.xf_def_machine.specs.declared.refusal.Refusal.{Refusal}
+use Rattle.xf_def_form.specs.Formed.{profile}
+use Rattle.xf_def_sessions.specs.Runs.{Item}
+use Rattle.xf_def_sessions.specs.Opening.{Opened, opened, no_session, other_form, damaged}
 use Rattle.xf_session.specs.declared.fault.BeginFault.{BeginFault}
 use Rattle.xf_session.specs.declared.fault.BeginFault.TheVariants as begin_fault
 use Rattle.xf_session.specs.declared.fault.ResumeFault.{ResumeFault}

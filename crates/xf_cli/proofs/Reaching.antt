@@ -6,12 +6,12 @@ use Rattle.xf_store.specs.declared.answers.Answer.{Answer}
 use Rattle.xf_store.specs.declared.call.StoreCall.{StoreCall}
 use Rattle.xf_store.specs.Called.{Called, Told}
 use Rattle.xf_store.proofs.CalledLaws.{called-none, called-on}
-use Rattle.xf_answers.specs.declared.answering.AnswerFault.TheVariants as fault
-use Rattle.xf_form_machine.specs.State.{State}
-use Rattle.xf_form_machine.specs.Written.{IsFront}
-use Rattle.xf_history.specs.Sessions as history
-use Rattle.xf_history.specs.Runs.{Item, Ran}
-use Rattle.xf_history.specs.Usual.{usual}
+use Rattle.xf_cli_stream.specs.declared.answering.AnswerFault.TheVariants as fault
+use Rattle.xf_def_machine.specs.State.{State}
+use Rattle.xf_def_machine.specs.Written.{IsFront}
+use Rattle.xf_def_sessions.specs.Sessions as history
+use Rattle.xf_def_sessions.specs.Runs.{Item, Ran}
+use Rattle.xf_def_sessions.specs.Usual.{usual}
 use Rattle.xf_journal.specs.Held.{held}
 use Rattle.xf_session.specs.declared.session.Session.{Session}
 use Rattle.xf_session.specs.Keeping.{Keeps, KeepsOne, IsSession}

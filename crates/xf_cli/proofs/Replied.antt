@@ -5,18 +5,18 @@ use Rattle.std.proofs.lemmas.List.{take-append-drop}
 use Rattle.xf_base.specs.Limits.{line_limit, stream_limit}
 use Rattle.xf_io.specs.Ahead.{most_ahead}
 use Rattle.xf_io.specs.Lines.{lines_of, ended_lines}
-use Rattle.xf_answers.specs.Answers as lines
-use Rattle.xf_answers.specs.declared.answering.AnswerFault.TheVariants as fault
-use Rattle.xf_answers.specs.declared.lines.Ending.{Ending}
-use Rattle.xf_answers.specs.declared.lines.Ending.TheVariants.{Done, ReadFault, SinkFault, DiskFault, TooMuch, Memory}
+use Rattle.xf_cli_stream.specs.Answers as lines
+use Rattle.xf_cli_stream.specs.declared.answering.AnswerFault.TheVariants as fault
+use Rattle.xf_cli_stream.specs.declared.lines.Ending.{Ending}
+use Rattle.xf_cli_stream.specs.declared.lines.Ending.TheVariants.{Done, ReadFault, SinkFault, DiskFault, TooMuch, Memory}
 use Rattle.xf_store.specs.declared.call.StoreCall.{StoreCall}
 use Rattle.xf_store.specs.Called.{Called, Told}
 use Rattle.xf_store.proofs.CalledLaws.{called-none, called-on}
-use Rattle.xf_form_machine.specs.State.{State}
-use Rattle.xf_form_machine.specs.Replies.{Replies, answers_in, reply}
-use Rattle.xf_form_machine.specs.Written.{AsFarAs, HaveBegun, IsFront}
-use Rattle.xf_processor.specs.Formed.{profile}
-use Rattle.xf_work.specs.Standing.{Standing, state_of}
+use Rattle.xf_def_machine.specs.State.{State}
+use Rattle.xf_def_machine.specs.Replies.{Replies, answers_in, reply}
+use Rattle.xf_def_machine.specs.Written.{AsFarAs, HaveBegun, IsFront}
+use Rattle.xf_def_form.specs.Formed.{profile}
+use Rattle.xf_engine_state.specs.Standing.{Standing, state_of}
 use Rattle.xf_cli.specs.Replies.{Answers, IsReply, Leaves}
 use Rattle.xf_cli.specs.Answered.{AnswersTold, EndsSo, StopsIn, answering_of}
 use Rattle.xf_cli.proofs.ReplyLaws.{long_reply}

@@ -16,24 +16,24 @@ use Rattle.xf_store.specs.declared.answers.Answer.{Answer}
 use Rattle.xf_store.specs.declared.call.StoreCall.{StoreCall}
 use Rattle.xf_store.specs.Called.{Told}
 use Rattle.xf_store.proofs.CalledLaws.{called-none}
-use Rattle.xf_form_machine.specs.State.{State}
-use Rattle.xf_form_machine.specs.Refusal as machine
-use Rattle.xf_form_machine.specs.FormReplies.{form_texts, construct_texts, ready_text}
-use Rattle.xf_form_machine.specs.StateText.{line_of}
-use Rattle.xf_form_machine.specs.Step.{Outcome, accepted, refused, Posted, step}
-use Rattle.xf_form_machine.specs.Replies.{Reply, without_event, note_lines, ok_text, limit_text, refusal_texts, reply, reply_outcome, reply_read, is_blank, answers_in}
-use Rattle.xf_form_machine.specs.declared.refusal.Refusal.{Refusal}
-use Rattle.xf_form_machine.specs.declared.refusal.Refusal.TheVariants as told
-use Rattle.xf_form_machine.specs.Told.{Tells}
+use Rattle.xf_def_machine.specs.State.{State}
+use Rattle.xf_def_machine.specs.Refusal as machine
+use Rattle.xf_def_machine.specs.FormReplies.{form_texts, construct_texts, ready_text}
+use Rattle.xf_def_machine.specs.StateText.{line_of}
+use Rattle.xf_def_machine.specs.Step.{Outcome, accepted, refused, Posted, step}
+use Rattle.xf_def_machine.specs.Replies.{Reply, without_event, note_lines, ok_text, limit_text, refusal_texts, reply, reply_outcome, reply_read, is_blank, answers_in}
+use Rattle.xf_def_machine.specs.declared.refusal.Refusal.{Refusal}
+use Rattle.xf_def_machine.specs.declared.refusal.Refusal.TheVariants as told
+use Rattle.xf_def_machine.specs.Told.{Tells}
 use Rattle.xf_report.specs.Refusals.{refusal_text, construct_text}
-use Rattle.xf_form_machine.specs.Told as meaning
+use Rattle.xf_def_machine.specs.Told as meaning
 use Rattle.xf_report.proofs.AnswerLaws.{tells-text}
-use Rattle.xf_form_machine.specs.ControlText.{state_text}
-use Rattle.xf_work.specs.Standing.{Standing, state_of}
-use Rattle.xf_world.specs.declared.fault.EventFault.{EventFault}
-use Rattle.xf_world.specs.declared.fault.EventFault.TheVariants.{Refused, Memory}
-use Rattle.xf_processor.specs.Formed.{profile}
-use Rattle.xf_work.specs.Does.{IsRefused}
+use Rattle.xf_def_machine.specs.ControlText.{state_text}
+use Rattle.xf_engine_state.specs.Standing.{Standing, state_of}
+use Rattle.xf_engine_world.specs.declared.fault.EventFault.{EventFault}
+use Rattle.xf_engine_world.specs.declared.fault.EventFault.TheVariants.{Refused, Memory}
+use Rattle.xf_def_form.specs.Formed.{profile}
+use Rattle.xf_engine_state.specs.Does.{IsRefused}
 use Rattle.xf_engine.specs.Stepped.{is_of_form, IsConstructed, IsRefusedAfter, IsAccepted, Starts, Steps}
 use Rattle.xf_cli.specs.Outside.{IsCalled, stored_of}
 use Rattle.xf_cli.specs.Finish.{IsSaid}

@@ -6,16 +6,16 @@ use Rattle.std.proofs.KnownBytes.{Appends-trans}
 use Rattle.xf_io.specs.Front.{AppendsFront}
 use Rattle.xf_disk.specs.Image.{Image}
 use Rattle.xf_disk.specs.Crash.{LeavesOnly}
-use Rattle.xf_answers.specs.Answering.{Answered}
-use Rattle.xf_answers.specs.Answers as lines
-use Rattle.xf_answers.specs.declared.answering.AnswerFault.{AnswerFault}
-use Rattle.xf_answers.specs.declared.answering.AnswerFault.TheVariants as fault
-use Rattle.xf_answers.specs.declared.lines.Ending.{Ending}
-use Rattle.xf_answers.specs.declared.lines.Ending.TheVariants as ending
+use Rattle.xf_cli_stream.specs.Answering.{Answered}
+use Rattle.xf_cli_stream.specs.Answers as lines
+use Rattle.xf_cli_stream.specs.declared.answering.AnswerFault.{AnswerFault}
+use Rattle.xf_cli_stream.specs.declared.answering.AnswerFault.TheVariants as fault
+use Rattle.xf_cli_stream.specs.declared.lines.Ending.{Ending}
+use Rattle.xf_cli_stream.specs.declared.lines.Ending.TheVariants as ending
 use Rattle.xf_store.specs.declared.answers.Answer.{Answer}
 use Rattle.xf_store.specs.Called.{Called, Told}
-use Rattle.xf_form_machine.specs.Program.{Program}
-use Rattle.xf_history.specs.Runs.{Item}
+use Rattle.xf_def_machine.specs.Program.{Program}
+use Rattle.xf_def_sessions.specs.Runs.{Item}
 use Rattle.xf_session.specs.declared.session.Session.{Session}
 use Rattle.xf_session.specs.Keeping.{KeepsOne, KeepsNoItem, IsSession}
 use Rattle.xf_cli.specs.Course.{Course, set_out, Takes, Lacks, FailsAt, event_in}

@@ -5,12 +5,12 @@ use Rattle.std.specs.Io.KnownBytes.{Appends}
 use Rattle.std.proofs.KnownBytes.{Appends-trans}
 use Rattle.xf_disk.specs.Image.{Image}
 use Rattle.xf_io.specs.Front.{AppendsFront}
-use Rattle.xf_answers.specs.Answering.{Answered}
-use Rattle.xf_answers.specs.Answers as lines
-use Rattle.xf_answers.specs.declared.lines.Ending.{Ending}
-use Rattle.xf_answers.specs.declared.lines.Ending.TheVariants as ending
+use Rattle.xf_cli_stream.specs.Answering.{Answered}
+use Rattle.xf_cli_stream.specs.Answers as lines
+use Rattle.xf_cli_stream.specs.declared.lines.Ending.{Ending}
+use Rattle.xf_cli_stream.specs.declared.lines.Ending.TheVariants as ending
 use Rattle.xf_store.specs.Called.{Called, Told}
-use Rattle.xf_form_machine.specs.Program.{Program}
+use Rattle.xf_def_machine.specs.Program.{Program}
 use Rattle.xf_engine.specs.Running.{Pending}
 use Rattle.xf_session.specs.declared.session.Session.{Session}
 use Rattle.xf_cli.specs.declared.kept.Kept.{Kept}

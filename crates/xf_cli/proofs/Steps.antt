@@ -2,11 +2,11 @@
 use Rattle.std.proofs.Common.{◌≡◌, ◌⊎◌, ◌∙◌, ℕ, Bool, true, false, List, [], ◌∷◌, ◌++◌, length, take, drop, nat_lt, refl, sym, subst, inl, inr}
 use Rattle.xf_base.specs.Limits.{line_limit, stream_limit}
 use Rattle.xf_io.specs.Lines.{lines_of, ended_lines}
-use Rattle.xf_answers.specs.declared.answering.AnswerFault.{AnswerFault}
-use Rattle.xf_answers.specs.declared.answering.AnswerFault.TheVariants as fault
-use Rattle.xf_answers.specs.declared.lines.Ending.{Ending}
-use Rattle.xf_answers.specs.declared.lines.Ending.TheVariants.{Done, ReadFault, SinkFault, TooMuch, DiskFault, Memory}
-use Rattle.xf_answers.specs.Answers.{Replies, Leaves, too_long_reply, takes_by, Takes, TakesAll, IsBegun, AsFarAs, IsLeft, IsLastLine, InWork, StopsAt, answered_lines, Answers}
+use Rattle.xf_cli_stream.specs.declared.answering.AnswerFault.{AnswerFault}
+use Rattle.xf_cli_stream.specs.declared.answering.AnswerFault.TheVariants as fault
+use Rattle.xf_cli_stream.specs.declared.lines.Ending.{Ending}
+use Rattle.xf_cli_stream.specs.declared.lines.Ending.TheVariants.{Done, ReadFault, SinkFault, TooMuch, DiskFault, Memory}
+use Rattle.xf_cli_stream.specs.Answers.{Replies, Leaves, too_long_reply, takes_by, Takes, TakesAll, IsBegun, AsFarAs, IsLeft, IsLastLine, InWork, StopsAt, answered_lines, Answers}
 
 module _ {A B : Type 0} (replies : Replies A) (leaves : Leaves A) (says : Replies B) (lacks : Leaves B) (at fails : A → B → Type 0)
     (step : (a : A) (b : B) (line text : List ℕ) (next : A) → at a b → replies a line text next → (c : B) × at next c × says b line text c)

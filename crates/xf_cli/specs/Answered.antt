@@ -4,14 +4,14 @@ use Rattle.std.specs.declared.option.Option.{Option as Known}
 use Rattle.xf_base.specs.Limits.{stream_limit}
 use Rattle.xf_io.specs.Ahead.{most_ahead}
 use Rattle.xf_io.specs.Lines.{ended_lines}
-use Rattle.xf_answers.specs.declared.lines.Ending.{Ending}
-use Rattle.xf_answers.specs.declared.lines.Ending.TheVariants.{Done, ReadFault, SinkFault, DiskFault, TooMuch, Memory}
+use Rattle.xf_cli_stream.specs.declared.lines.Ending.{Ending}
+use Rattle.xf_cli_stream.specs.declared.lines.Ending.TheVariants.{Done, ReadFault, SinkFault, DiskFault, TooMuch, Memory}
 use Rattle.xf_store.specs.declared.call.StoreCall.{StoreCall}
 use Rattle.xf_store.specs.Called.{Called, Told}
-use Rattle.xf_form_machine.specs.State.{State}
-use Rattle.xf_form_machine.specs.Replies.{Replies}
-use Rattle.xf_form_machine.specs.Written.{Answering, Answers, Exactly, IsFront, answered_lines, done, read_fault, sink_fault, too_much}
-use Rattle.xf_processor.specs.Formed.{profile}
+use Rattle.xf_def_machine.specs.State.{State}
+use Rattle.xf_def_machine.specs.Replies.{Replies}
+use Rattle.xf_def_machine.specs.Written.{Answering, Answers, Exactly, IsFront, answered_lines, done, read_fault, sink_fault, too_much}
+use Rattle.xf_def_form.specs.Formed.{profile}
 use Rattle.xf_cli.specs.Outside.{Object, IsUntouched}
 
 -- memory was wanting: so much of the events was taken as lines and as a part of the next one, and of the lines that ended all are answered but at most

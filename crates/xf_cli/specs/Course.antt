@@ -10,12 +10,12 @@ use Rattle.xf_line.specs.Line.{asked_by}
 use Rattle.xf_store.specs.declared.answers.Answer.{Answer}
 use Rattle.xf_store.specs.declared.call.StoreCall.{StoreCall}
 use Rattle.xf_journal.specs.Entry.{written_bytes}
-use Rattle.xf_form_machine.specs.State.{State}
-use Rattle.xf_form_machine.specs.Step.{Outcome, accepted, refused, step}
-use Rattle.xf_form_machine.specs.Replies.{answers_in, is_blank, reply}
-use Rattle.xf_processor.specs.Formed.{profile}
-use Rattle.xf_history.specs.Runs as history
-use Rattle.xf_history.specs.Runs.{Item}
+use Rattle.xf_def_machine.specs.State.{State}
+use Rattle.xf_def_machine.specs.Step.{Outcome, accepted, refused, step}
+use Rattle.xf_def_machine.specs.Replies.{answers_in, is_blank, reply}
+use Rattle.xf_def_form.specs.Formed.{profile}
+use Rattle.xf_def_sessions.specs.Runs as history
+use Rattle.xf_def_sessions.specs.Runs.{Item}
 
 -- how far a session has come: its state and the bytes in use in its slot; and since the lines began, in order, the events that it took, the calls of
 -- the store in all events, and the event that may stand on the disk without a reply

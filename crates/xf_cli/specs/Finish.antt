@@ -4,27 +4,27 @@ use Rattle.std.specs.List.{list_all}
 use Rattle.std.specs.Io.KnownBytes.{Appends, Consumes, IsAtEnd}
 use Rattle.xf_base.specs.Limits.{form_limit, line_limit}
 use Rattle.xf_io.specs.Front.{AppendsFront}
-use Rattle.xf_answers.specs.Answering.{Answered}
-use Rattle.xf_answers.specs.Answers as lines
-use Rattle.xf_answers.specs.Out.{IsSteady}
-use Rattle.xf_answers.specs.declared.lines.Ending.{Ending}
-use Rattle.xf_answers.specs.declared.lines.Ending.TheVariants as ending
+use Rattle.xf_cli_stream.specs.Answering.{Answered}
+use Rattle.xf_cli_stream.specs.Answers as lines
+use Rattle.xf_cli_stream.specs.Out.{IsSteady}
+use Rattle.xf_cli_stream.specs.declared.lines.Ending.{Ending}
+use Rattle.xf_cli_stream.specs.declared.lines.Ending.TheVariants as ending
 use Rattle.xf_line.specs.Line.{asked_by}
-use Rattle.xf_loader.specs.declared.fault.FormFault.TheVariants as fault
-use Rattle.xf_loader.specs.declared.loaded.Loaded as loader
-use Rattle.xf_loader.specs.Loading.{loaded_in}
+use Rattle.xf_form.specs.declared.fault.FormFault.TheVariants as fault
+use Rattle.xf_form.specs.declared.loaded.Loaded as loader
+use Rattle.xf_form.specs.Loading.{loaded_in}
 use Rattle.xf_store.specs.declared.answers.Answer.{Answer}
 use Rattle.xf_store.specs.Called.{Told}
-use Rattle.xf_form_machine.specs.Program.{Program}
-use Rattle.xf_form_machine.specs.State.{State}
-use Rattle.xf_form_machine.specs.Construct.{construct}
-use Rattle.xf_form_machine.specs.Start.{start}
-use Rattle.xf_form_machine.specs.Step.{Posted, Outcome}
-use Rattle.xf_form_machine.specs.Replies.{is_blank, note_lines, reply, without_event}
-use Rattle.xf_form_machine.specs.FormReplies.{construct_texts}
-use Rattle.xf_processor.specs.Formed.{program_in, profile}
+use Rattle.xf_def_machine.specs.Program.{Program}
+use Rattle.xf_def_machine.specs.State.{State}
+use Rattle.xf_def_machine.specs.Construct.{construct}
+use Rattle.xf_def_machine.specs.Start.{start}
+use Rattle.xf_def_machine.specs.Step.{Posted, Outcome}
+use Rattle.xf_def_machine.specs.Replies.{is_blank, note_lines, reply, without_event}
+use Rattle.xf_def_machine.specs.FormReplies.{construct_texts}
+use Rattle.xf_def_form.specs.Formed.{program_in, profile}
 use Rattle.xf_session.specs.Beginning.{IsBuilt}
-use Rattle.xf_work.specs.Standing.{state_of}
+use Rattle.xf_engine_state.specs.Standing.{state_of}
 use Rattle.xf_engine.specs.Stepped.{started}
 use Rattle.xf_cli.specs.declared.begin.Begun.{Begun}
 use Rattle.xf_cli.specs.declared.begin.Begun.TheVariants as begun

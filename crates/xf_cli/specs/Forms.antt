@@ -1,24 +1,24 @@
 -- What a run makes of the bytes of a form: they are refused, or give a form that is constructed and started.
 use Rattle.std.specs.Prelude.{ℕ, ◌≡◌, ◌⊎◌, List, [], Some, None, Result, Ok, Err, Contains}
 use Rattle.std.specs.declared.option.Option.{Option as Known}
-use Rattle.xf_loader.specs.declared.fault.FormFault.{FormFault}
-use Rattle.xf_loader.specs.declared.fault.FormFault.TheVariants as fault
-use Rattle.xf_loader.specs.declared.loaded.Loaded.{Loaded}
-use Rattle.xf_loader.specs.Loading.{loaded_in}
+use Rattle.xf_form.specs.declared.fault.FormFault.{FormFault}
+use Rattle.xf_form.specs.declared.fault.FormFault.TheVariants as fault
+use Rattle.xf_form.specs.declared.loaded.Loaded.{Loaded}
+use Rattle.xf_form.specs.Loading.{loaded_in}
 use Rattle.xf_store.specs.declared.answers.Answer.{Answer}
 use Rattle.xf_store.specs.declared.call.StoreCall.{StoreCall}
 use Rattle.xf_store.specs.Called.{Called, Told}
-use Rattle.xf_form_machine.specs.Program.{Program}
-use Rattle.xf_form_machine.specs.State.{State}
-use Rattle.xf_form_machine.specs.Refusal as machine
-use Rattle.xf_form_machine.specs.Construct.{construct}
-use Rattle.xf_form_machine.specs.Start.{start}
-use Rattle.xf_form_machine.specs.Step.{Posted, Outcome, accepted, refused}
-use Rattle.xf_form_machine.specs.FormReplies.{construct_texts, ready_text}
-use Rattle.xf_form_machine.specs.Replies.{answers_in, note_lines}
-use Rattle.xf_form_machine.specs.StateText.{line_of}
-use Rattle.xf_processor.specs.Formed.{program_in, profile}
-use Rattle.xf_history.specs.Opening.{no_session}
+use Rattle.xf_def_machine.specs.Program.{Program}
+use Rattle.xf_def_machine.specs.State.{State}
+use Rattle.xf_def_machine.specs.Refusal as machine
+use Rattle.xf_def_machine.specs.Construct.{construct}
+use Rattle.xf_def_machine.specs.Start.{start}
+use Rattle.xf_def_machine.specs.Step.{Posted, Outcome, accepted, refused}
+use Rattle.xf_def_machine.specs.FormReplies.{construct_texts, ready_text}
+use Rattle.xf_def_machine.specs.Replies.{answers_in, note_lines}
+use Rattle.xf_def_machine.specs.StateText.{line_of}
+use Rattle.xf_def_form.specs.Formed.{program_in, profile}
+use Rattle.xf_def_sessions.specs.Opening.{no_session}
 use Rattle.xf_session.specs.Opening.{opening}
 use Rattle.xf_engine.specs.Stepped.{IsAccepted}
 use Rattle.xf_cli.specs.declared.status.Command.{Command}

@@ -1,13 +1,13 @@
 -- What a line makes of a session that is kept on a disk.
 use Rattle.std.specs.Prelude.{ℕ, ◌≡◌, Bool, false, IsTrue, List, [], ◌++◌, Option, None}
-use Rattle.xf_answers.specs.declared.answering.AnswerFault.{AnswerFault}
-use Rattle.xf_answers.specs.declared.answering.AnswerFault.TheVariants as fault
+use Rattle.xf_cli_stream.specs.declared.answering.AnswerFault.{AnswerFault}
+use Rattle.xf_cli_stream.specs.declared.answering.AnswerFault.TheVariants as fault
 use Rattle.xf_disk.specs.Image.{Image}
 use Rattle.xf_disk.specs.Crash.{LeavesOnly}
 use Rattle.xf_store.specs.declared.answers.Answer.{Answer}
 use Rattle.xf_store.specs.Called.{Called, Told}
-use Rattle.xf_form_machine.specs.State.{State}
-use Rattle.xf_history.specs.Runs.{Item}
+use Rattle.xf_def_machine.specs.State.{State}
+use Rattle.xf_def_sessions.specs.Runs.{Item}
 use Rattle.xf_session.specs.declared.session.Session.{Session}
 use Rattle.xf_session.specs.Keeping.{IsAtDisk, IsSession, KeepsOne}
 use Rattle.xf_cli.specs.Course.{Course, set_out, Takes, Lacks, FailsAt, event_in}

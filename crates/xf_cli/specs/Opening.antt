@@ -3,12 +3,12 @@ use Rattle.std.specs.Prelude.{ℕ, ◌≡◌, ◌⊎◌, List, [], None, string_
 use Rattle.xf_session.specs.declared.session.Session.{Session}
 use Rattle.xf_session.specs.Keeping.{IsSession, KeepsOne, KeepsNoItem}
 use Rattle.xf_store.specs.declared.answers.Answer.{Answer}
-use Rattle.xf_form_machine.specs.Program.{Program}
-use Rattle.xf_form_machine.specs.ControlText.{state_text}
-use Rattle.xf_form_machine.specs.Start.{start}
-use Rattle.xf_history.specs.Runs.{Item}
+use Rattle.xf_def_machine.specs.Program.{Program}
+use Rattle.xf_def_machine.specs.ControlText.{state_text}
+use Rattle.xf_def_machine.specs.Start.{start}
+use Rattle.xf_def_sessions.specs.Runs.{Item}
 use Rattle.xf_engine.specs.Running.{Pending}
-use Rattle.xf_processor.specs.Formed.{profile}
+use Rattle.xf_def_form.specs.Formed.{profile}
 use Rattle.xf_cli.specs.declared.opening.Opened.{Opened}
 use Rattle.xf_cli.specs.declared.opening.Opened.TheVariants as outset
 use Rattle.xf_cli.specs.declared.status.Command.TheVariants.{Run, Show}

@@ -1,14 +1,14 @@
 -- What is written for a line of the events: the form machine's reply, over the answers of the store to the calls in the line.
 use Rattle.std.specs.Prelude.{ℕ, ◌≡◌, true, List, [], Contains}
-use Rattle.xf_answers.specs.declared.answering.AnswerFault.{AnswerFault}
-use Rattle.xf_answers.specs.declared.answering.AnswerFault.TheVariants as fault
+use Rattle.xf_cli_stream.specs.declared.answering.AnswerFault.{AnswerFault}
+use Rattle.xf_cli_stream.specs.declared.answering.AnswerFault.TheVariants as fault
 use Rattle.xf_store.specs.declared.answers.Answer.{Answer}
 use Rattle.xf_store.specs.declared.call.StoreCall.{StoreCall}
 use Rattle.xf_store.specs.Called.{Called, Told}
-use Rattle.xf_form_machine.specs.State.{State}
-use Rattle.xf_form_machine.specs.Replies.{Reply, reply, answers_in}
-use Rattle.xf_work.specs.Standing.{Standing, state_of}
-use Rattle.xf_processor.specs.Formed.{profile}
+use Rattle.xf_def_machine.specs.State.{State}
+use Rattle.xf_def_machine.specs.Replies.{Reply, reply, answers_in}
+use Rattle.xf_engine_state.specs.Standing.{Standing, state_of}
+use Rattle.xf_def_form.specs.Formed.{profile}
 
 -- these bytes may be written, that state stands after it, and these calls of the store are made
 pub record Gives (r : Reply) (written : List ℕ) (next : State) (made : List StoreCall) : Type 0 where

@@ -1,8 +1,8 @@
 -- Who runs the forms of sessions: the engine.
 use Rattle.std.specs.Prelude.{ℕ, Bool, Option, option_map}
 use Rattle.xf_disk.specs.Image.{Image}
-use Rattle.xf_form_machine.specs.State.{State}
-use Rattle.xf_work.specs.Standing.{state_of}
+use Rattle.xf_def_machine.specs.State.{State}
+use Rattle.xf_engine_state.specs.Standing.{state_of}
 use Rattle.xf_engine.specs.Running.{Pending}
 use Rattle.xf_cli.specs.Kept.{Views}
 

@@ -1,31 +1,31 @@
 -- What a run over the two slots comes to: a session is opened or begun, its lines are answered, or its state is shown.
 use Rattle.std.specs.Prelude.{ℕ, ◌≡◌, ◌⊎◌, ◌+◌, List, [], ◌++◌, Some, None, Result, Ok}
 use Rattle.std.specs.declared.option.Option.{Option as Known}
-use Rattle.xf_answers.specs.Answers as lines
-use Rattle.xf_answers.specs.declared.answering.AnswerFault.{AnswerFault}
-use Rattle.xf_answers.specs.declared.answering.AnswerFault.TheVariants as answer_fault
-use Rattle.xf_answers.specs.declared.lines.Ending.{Ending}
-use Rattle.xf_answers.specs.declared.lines.Ending.TheVariants.{SinkFault}
+use Rattle.xf_cli_stream.specs.Answers as lines
+use Rattle.xf_cli_stream.specs.declared.answering.AnswerFault.{AnswerFault}
+use Rattle.xf_cli_stream.specs.declared.answering.AnswerFault.TheVariants as answer_fault
+use Rattle.xf_cli_stream.specs.declared.lines.Ending.{Ending}
+use Rattle.xf_cli_stream.specs.declared.lines.Ending.TheVariants.{SinkFault}
 use Rattle.xf_disk.specs.declared.slot.Slot.TheVariants.{A}
 use Rattle.xf_disk.specs.Image.{Image}
 use Rattle.xf_journal.specs.Held.{Log, held}
 use Rattle.xf_journal.specs.Scanned.{new_log}
-use Rattle.xf_loader.specs.declared.fault.FormFault.{FormFault}
-use Rattle.xf_loader.specs.declared.loaded.Loaded.{Loaded}
+use Rattle.xf_form.specs.declared.fault.FormFault.{FormFault}
+use Rattle.xf_form.specs.declared.loaded.Loaded.{Loaded}
 use Rattle.xf_store.specs.declared.answers.Answer.{Answer}
 use Rattle.xf_store.specs.declared.call.StoreCall.{StoreCall}
 use Rattle.xf_store.specs.Called.{Called, Told}
-use Rattle.xf_form_machine.specs.Program.{Program}
-use Rattle.xf_form_machine.specs.State.{State}
-use Rattle.xf_form_machine.specs.Construct.{construct}
-use Rattle.xf_form_machine.specs.Start.{start}
-use Rattle.xf_form_machine.specs.Step.{Posted}
-use Rattle.xf_form_machine.specs.Replies.{answers_in, note_lines}
-use Rattle.xf_form_machine.specs.ControlText.{state_text}
-use Rattle.xf_form_machine.specs.Written.{IsFront}
-use Rattle.xf_processor.specs.Formed.{program_in, profile}
-use Rattle.xf_history.specs.Sessions as history
-use Rattle.xf_history.specs.Opening.{Opened, opened, no_session, other_form, damaged}
+use Rattle.xf_def_machine.specs.Program.{Program}
+use Rattle.xf_def_machine.specs.State.{State}
+use Rattle.xf_def_machine.specs.Construct.{construct}
+use Rattle.xf_def_machine.specs.Start.{start}
+use Rattle.xf_def_machine.specs.Step.{Posted}
+use Rattle.xf_def_machine.specs.Replies.{answers_in, note_lines}
+use Rattle.xf_def_machine.specs.ControlText.{state_text}
+use Rattle.xf_def_machine.specs.Written.{IsFront}
+use Rattle.xf_def_form.specs.Formed.{program_in, profile}
+use Rattle.xf_def_sessions.specs.Sessions as history
+use Rattle.xf_def_sessions.specs.Opening.{Opened, opened, no_session, other_form, damaged}
 use Rattle.xf_session.specs.Opening.{opening}
 use Rattle.xf_session.specs.Replaying.{start_image}
 use Rattle.xf_cli.specs.declared.status.SessionFault.{SessionFault}

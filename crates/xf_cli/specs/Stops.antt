@@ -3,10 +3,10 @@ use Rattle.std.specs.Prelude.{ℕ, ◌≡◌, ◌⊎◌, List, [], ◌∷◌, �
 use Rattle.xf_disk.specs.Image.{Image}
 use Rattle.xf_line.specs.declared.event.Event.{Event}
 use Rattle.xf_store.specs.declared.answers.Answer.{Answer}
-use Rattle.xf_form_machine.specs.Written.{IsFront}
-use Rattle.xf_history.specs.Sessions.{Session}
-use Rattle.xf_history.specs.Runs.{Item, line, Ran}
-use Rattle.xf_history.specs.Usual.{usual}
+use Rattle.xf_def_machine.specs.Written.{IsFront}
+use Rattle.xf_def_sessions.specs.Sessions.{Session}
+use Rattle.xf_def_sessions.specs.Runs.{Item, line, Ran}
+use Rattle.xf_def_sessions.specs.Usual.{usual}
 use Rattle.xf_session.specs.Keeping.{Keeps, KeepsOne, KeepsNoItem}
 use Rattle.xf_cli.specs.Course.{Course}
 use Rattle.xf_cli.specs.Device.{Device, AtFirst, AtEachMoment, AtLast}

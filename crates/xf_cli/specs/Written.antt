@@ -2,9 +2,9 @@
 use Rattle.std.specs.Prelude.{ℕ, ◌≡◌, ◌⊎◌, List, [], string_bytes}
 use Rattle.std.specs.declared.option.Option.{Option as Known}
 use Rattle.xf_base.specs.Faults.{Rose}
-use Rattle.xf_answers.specs.declared.lines.Ending.{Ending}
-use Rattle.xf_answers.specs.declared.lines.Ending.TheVariants.{Done, ReadFault, SinkFault, DiskFault, TooMuch, Memory}
-use Rattle.xf_form_machine.specs.Written.{IsFront}
+use Rattle.xf_cli_stream.specs.declared.lines.Ending.{Ending}
+use Rattle.xf_cli_stream.specs.declared.lines.Ending.TheVariants.{Done, ReadFault, SinkFault, DiskFault, TooMuch, Memory}
+use Rattle.xf_def_machine.specs.Written.{IsFront}
 use Rattle.xf_cli.specs.declared.status.Command.{Command}
 use Rattle.xf_cli.specs.declared.status.Command.TheVariants.{Run, Try, Show, Check}
 use Rattle.xf_cli.specs.declared.status.SessionFault.{SessionFault}

@@ -1,7 +1,7 @@
 //! How a form that is loaded begins.
 
-ghost use Rattle.xf_work.specs.Standing.{state_of};
-ghost use Rattle.xf_processor.specs.Formed.{IsFromBytes};
+ghost use Rattle.xf_engine_state.specs.Standing.{state_of};
+ghost use Rattle.xf_def_form.specs.Formed.{IsFromBytes};
 ghost use Rattle.xf_cli.specs.Outside.{stored_of};
 ghost use Rattle.xf_cli.specs.Finish.{IsBegun, IsStarted};
 
@@ -9,10 +9,10 @@ use crate::session::Session;
 use std::alloc::Global;
 use xf_engine as engine;
 use xf_engine::Constructed;
-use xf_loader::Loaded;
+use xf_engine_world::EventFault;
+use xf_form::Loaded;
 use xf_report::{push_construct_refusal, push_ready_refusal};
 use xf_store::Store;
-use xf_world::EventFault;
 
 /// What comes of constructing a form.
 #[derive(Drop)]

@@ -1,13 +1,13 @@
 //! The line for the status of a run.
 
 ghost use Rattle.std.specs.Prelude.{◌≡◌, ◌≤◌, []};
-ghost use Rattle.xf_answers.specs.Out.{IsOutOrFailed};
+ghost use Rattle.xf_cli_stream.specs.Out.{IsOutOrFailed};
 ghost use Rattle.xf_cli.specs.Outside.{object_of};
 ghost use Rattle.xf_cli.specs.Statuses.{AppendsLine, ending_code, ending_line};
 ghost use Rattle.xf_cli.specs.Finish.{Finishes};
 
 use crate::status::Status;
-use xf_answers::{Ending, write_reply};
+use xf_cli_stream::{Ending, write_reply};
 use xf_io::Sink;
 
 /// Writes the line for the status, and gives its number.

@@ -7,9 +7,9 @@ ghost use Rattle.xf_cli.specs.Finish.{GivesReading, GivesLoaded};
 
 use std::alloc::Global;
 use xf_base::limits::FORM_LIMIT;
+use xf_form as loader;
+use xf_form::{FormFault, load};
 use xf_io::{Bytes, Source};
-use xf_loader as loader;
-use xf_loader::{FormFault, load};
 use xf_name::Word;
 
 /// What comes of reading a form.

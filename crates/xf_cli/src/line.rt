@@ -2,14 +2,14 @@
 
 ghost use Rattle.std.specs.Prelude.{◌≡◌, string_bytes, IfOk};
 ghost use Rattle.std.specs.List.{list_all};
-ghost use Rattle.xf_form_machine.specs.Replies.{is_blank};
-ghost use Rattle.xf_form_machine.specs.StateText.{line_of};
+ghost use Rattle.xf_def_machine.specs.Replies.{is_blank};
+ghost use Rattle.xf_def_machine.specs.StateText.{line_of};
 ghost use Rattle.xf_report.specs.Refusals.{refusal_text};
 ghost use Rattle.xf_cli.specs.Finish.{GivesLine, IsText};
 
 use std::alloc::{AllocError, Global};
 use xf_base::limits::LINE_LIMIT;
-use xf_form_machine::Refusal;
+use xf_def_machine::Refusal;
 use xf_line::{Asked, LineFault, read_line};
 use xf_report::push_refusal;
 

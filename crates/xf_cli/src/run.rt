@@ -3,13 +3,13 @@
 ghost use Rattle.std.specs.Prelude.{◌≡◌, ◌≤◌, [], None, Ok, map, length, string_bytes};
 ghost use Rattle.xf_base.specs.Faults.{Rose};
 ghost use Rattle.xf_base.specs.Limits.{form_limit};
-ghost use Rattle.xf_answers.specs.Out.{IsOutOrFailed, IsSteady};
-ghost use Rattle.xf_loader.specs.Loading.{loaded_in};
-ghost use Rattle.xf_form_machine.specs.ControlText.{state_text};
-ghost use Rattle.xf_form_machine.specs.Program.{Program};
-ghost use Rattle.xf_processor.specs.Formed.{profile, IsFromBytes};
+ghost use Rattle.xf_cli_stream.specs.Out.{IsOutOrFailed, IsSteady};
+ghost use Rattle.xf_form.specs.Loading.{loaded_in};
+ghost use Rattle.xf_def_machine.specs.ControlText.{state_text};
+ghost use Rattle.xf_def_machine.specs.Program.{Program};
+ghost use Rattle.xf_def_form.specs.Formed.{profile, IsFromBytes};
 ghost use Rattle.xf_session.specs.Beginning.{IsBuilt};
-ghost use Rattle.xf_work.specs.Standing.{state_of};
+ghost use Rattle.xf_engine_state.specs.Standing.{state_of};
 ghost use Rattle.xf_cli.specs.Device.{device_of};
 ghost use Rattle.xf_cli.specs.Outside.{object_of, stored_of};
 ghost use Rattle.xf_cli.specs.Running.{kept_in, state_in};
@@ -25,11 +25,11 @@ use crate::opening::{Opened, open, reopen};
 use crate::refusal::refused;
 use crate::status::{Command, Status};
 use std::alloc::Global;
-use xf_answers::{Answering, Ending, answer_lines, write_reply};
+use xf_cli_stream::{Answering, Ending, answer_lines, write_reply};
 use xf_disk::Disk;
 use xf_engine::Constructed;
+use xf_form as loader;
 use xf_io::{Sink, Source};
-use xf_loader as loader;
 use xf_store::Store;
 
 /// Does all that the program does, and gives the number that it ends with.

@@ -3,22 +3,22 @@
 ghost use Rattle.std.specs.Prelude.{◌≡◌, true, string_bytes, Ok, IfOk, OnErr};
 ghost use Rattle.std.specs.List.{list_all};
 ghost use Rattle.xf_line.specs.declared.event.Asked.TheVariants as asked;
-ghost use Rattle.xf_form_machine.specs.Replies.{is_blank, reply_read};
-ghost use Rattle.xf_form_machine.specs.StateText.{line_of};
-ghost use Rattle.xf_processor.specs.Formed.{profile};
+ghost use Rattle.xf_def_machine.specs.Replies.{is_blank, reply_read};
+ghost use Rattle.xf_def_machine.specs.StateText.{line_of};
+ghost use Rattle.xf_def_form.specs.Formed.{profile};
 ghost use Rattle.xf_report.specs.Refusals.{refusal_text};
-ghost use Rattle.xf_work.specs.Standing.{state_of};
+ghost use Rattle.xf_engine_state.specs.Standing.{state_of};
 ghost use Rattle.xf_store.specs.Called.{Told};
 ghost use Rattle.xf_cli.specs.Replies.{IsReplied, LeavesSo};
 
 use crate::line::{Wants, refused_text, wanted};
 use std::alloc::{AllocError, Global};
 use std::marker::Model;
-use xf_answers::{AnswerFault, Answering};
+use xf_cli_stream::{AnswerFault, Answering};
 use xf_engine::Engine;
+use xf_engine_world::EventFault;
 use xf_line::{Asked, Event};
 use xf_store::Store;
-use xf_world::EventFault;
 
 /// A form at work, whose events come as lines. Contracts see the state of the form machine.
 #[derive(Drop)]
@@ -28,8 +28,8 @@ pub(crate) struct Session {
 
 impl Model for Session {
     ghost use Rattle.std.specs.Coded.{codes};
-    ghost use Rattle.xf_ast.specs.contracts.expr.Expr as expr;
-    ghost use Rattle.xf_work.specs.Standing.{Standing};
+    ghost use Rattle.xf_def_syntax.specs.contracts.expr.Expr as expr;
+    ghost use Rattle.xf_engine_state.specs.Standing.{Standing};
 
     ghost Value = { Standing };
 

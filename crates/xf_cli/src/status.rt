@@ -1,6 +1,6 @@
 //! What a run was asked for, and how it ends.
 
-use xf_answers::Ending;
+use xf_cli_stream::Ending;
 use xf_disk::Slot;
 
 /// A command of the program.

@@ -5,8 +5,8 @@ use Rattle.std.proofs.lemmas.Bool.{and_parts}
 use Rattle.std.proofs.lemmas.Bool.Decides.{nat_tests}
 use Rattle.std.proofs.lemmas.List.{drop_all, length-take-le, take_all, take_more}
 use Rattle.std.proofs.lemmas.Slice.Eq.{bytes_eq-Decides}
-use Rattle.xf_ui.specs.Copies.{Copy}
-use Rattle.xf_ui.specs.Notifications.{is_same_copy}
+use Rattle.xf_def_ui.specs.Copies.{Copy}
+use Rattle.xf_def_ui.specs.Notifications.{is_same_copy}
 use Rattle.xf_controls.specs.Before.{first_by, first_from, first_in, first_or, in_row, innermost, is_row}
 use Rattle.xf_controls.specs.declared.copy.ControlCopy.{ControlCopy}
 use Rattle.xf_controls.specs.Seen.{seen_copy}

@@ -1,18 +1,18 @@
 -- The copies of an element and of those in it, by what is handed down, are those of the places below it.
 use Rattle.std.proofs.Common.{◌≡◌, ℕ, zero, suc, ◌+◌, ◌≤◌, Bool, true, false, not, ◌&&◌, ◌||◌, List, [], ◌∷◌, ◌++◌, length, Option, Some, None, option_map, refl, sym, ap, ◌∙◌, arith}
 use Rattle.std.specs.List.{flat_map}
-use Rattle.xf_ast.specs.declared.element.Part.{Part}
-use Rattle.xf_ast.specs.declared.element.Part.TheVariants as part
-use Rattle.xf_ast.specs.Ordered.{child_in}
-use Rattle.xf_lang.specs.Setting.{Focus, ◌>>=◌, each}
-use Rattle.xf_ui.specs.Interface.{Bound, unbound, nodes, by_bind, Interface}
-use Rattle.xf_ui.specs.Elements.{element_at, ancestors, children, is_control}
-use Rattle.xf_ui.specs.Around.{Around, first_bound}
-use Rattle.xf_ui.specs.Context.{enter, inside, focus_in, scope_of}
-use Rattle.xf_ui.specs.declared.marks.Marks.{Marks}
-use Rattle.xf_ui.specs.Copies.{Copy, copy_of}
-use Rattle.xf_ui.specs.Places.{Places}
-use Rattle.xf_ui.specs.Places as places
+use Rattle.xf_def_syntax.specs.declared.element.Part.{Part}
+use Rattle.xf_def_syntax.specs.declared.element.Part.TheVariants as part
+use Rattle.xf_def_syntax.specs.Ordered.{child_in}
+use Rattle.xf_def_xpath.specs.Setting.{Focus, ◌>>=◌, each}
+use Rattle.xf_def_ui.specs.Interface.{Bound, unbound, nodes, by_bind, Interface}
+use Rattle.xf_def_ui.specs.Elements.{element_at, ancestors, children, is_control}
+use Rattle.xf_def_ui.specs.Around.{Around, first_bound}
+use Rattle.xf_def_ui.specs.Context.{enter, inside, focus_in, scope_of}
+use Rattle.xf_def_ui.specs.declared.marks.Marks.{Marks}
+use Rattle.xf_def_ui.specs.Copies.{Copy, copy_of}
+use Rattle.xf_def_ui.specs.Places.{Places}
+use Rattle.xf_def_ui.specs.Places as places
 use Rattle.xf_controls.specs.Plain.{is_plain}
 use Rattle.xf_controls.specs.Handed.{Handed, inside_of, place_for, node_in, handed_by, copy_by}
 use Rattle.xf_controls.specs.Below.{shows, some_shown, is_bound, is_passed, of_parts, if_control, copies_by, unless, copies_from}

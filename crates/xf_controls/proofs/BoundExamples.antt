@@ -1,8 +1,8 @@
 -- Forms of which it is known what each control binds, and forms of which it is not.
 use Rattle.std.proofs.Common.{◌≡◌, zero, suc, [], ◌∷◌, Option, Some, None, refl, sym, codes}
-use Rattle.xf_doc.specs.declared.node.NodeId.{NodeId}
-use Rattle.xf_ui.specs.Interface.{Interface, Sort, field, output}
-use Rattle.xf_ui.specs.Examples.{by, inside, interface, itself, to, top}
+use Rattle.xf_def_forest.specs.declared.node.NodeId.{NodeId}
+use Rattle.xf_def_ui.specs.Interface.{Interface, Sort, field, output}
+use Rattle.xf_def_ui.specs.Examples.{by, inside, interface, itself, to, top}
 use Rattle.xf_controls.specs.declared.known.Known.TheVariants.{Unknown, Is}
 use Rattle.xf_controls.specs.Bound.{AllBound, IsBoundAt, IsShownBy}
 

@@ -1,10 +1,10 @@
 -- What is known of each element, one element after the other.
 use Rattle.std.proofs.Common.{◌≡◌, ℕ, zero, suc, ◌+◌, ◌<◌, ◌≤◌, true, false, List, [], ◌∷◌, length, get_or, Option, Some, None, refl, sym, ap, ◌∙◌, subst, inl, inr, arith}
 use Rattle.std.specs.Prelude.{slice_get, ◌⊎◌}
-use Rattle.xf_ast.specs.declared.element.Element as written
-use Rattle.xf_ast.specs.declared.form.Form.{Form}
-use Rattle.xf_ui.specs.Interface.{Element, element_of, interface_of, sort_of}
-use Rattle.xf_ui.specs.Elements.{element_at, is_control}
+use Rattle.xf_def_syntax.specs.declared.element.Element as written
+use Rattle.xf_def_syntax.specs.declared.form.Form.{Form}
+use Rattle.xf_def_ui.specs.Interface.{Element, element_of, interface_of, sort_of}
+use Rattle.xf_def_ui.specs.Elements.{element_at, is_control}
 use Rattle.xf_controls.specs.declared.known.Known.{Known}
 use Rattle.xf_controls.specs.Bound.{AllBound, IsBoundAt, IsShownBy}
 use Rattle.xf_controls.specs.Handed.{printed_in}

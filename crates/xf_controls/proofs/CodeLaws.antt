@@ -4,16 +4,16 @@ use Rattle.std.specs.Prelude.{slice_get}
 use Rattle.std.specs.List.{flat_map}
 use Rattle.std.proofs.lemmas.List.Folds.{list_all-append}
 use Rattle.std.proofs.lemmas.List.{append-nil, drop_all, drop_more}
-use Rattle.xf_ast.specs.declared.element.Element as written
-use Rattle.xf_ast.specs.declared.element.Part.{Part}
-use Rattle.xf_ast.specs.declared.element.Part.TheVariants as part
-use Rattle.xf_ast.specs.declared.form.Form.{Form}
-use Rattle.xf_ast.specs.declared.form.Tables.{Tables}
-use Rattle.xf_lang.specs.Setting.{◌>>=◌}
-use Rattle.xf_ui.specs.Interface.{Element, Interface, element_of, interface_of, sort_of}
-use Rattle.xf_ui.specs.Elements.{element_at, is_control, no_element}
-use Rattle.xf_ui.specs.Copies.{Copy}
-use Rattle.xf_ast.specs.Ordered.{child_in, is_parent}
+use Rattle.xf_def_syntax.specs.declared.element.Element as written
+use Rattle.xf_def_syntax.specs.declared.element.Part.{Part}
+use Rattle.xf_def_syntax.specs.declared.element.Part.TheVariants as part
+use Rattle.xf_def_syntax.specs.declared.form.Form.{Form}
+use Rattle.xf_def_syntax.specs.declared.form.Tables.{Tables}
+use Rattle.xf_def_xpath.specs.Setting.{◌>>=◌}
+use Rattle.xf_def_ui.specs.Interface.{Element, Interface, element_of, interface_of, sort_of}
+use Rattle.xf_def_ui.specs.Elements.{element_at, is_control, no_element}
+use Rattle.xf_def_ui.specs.Copies.{Copy}
+use Rattle.xf_def_syntax.specs.Ordered.{child_in, is_parent}
 use Rattle.xf_controls.specs.Plain.{are_children}
 use Rattle.xf_controls.specs.Below.{is_shown, of_part, of_parts, shows, some_shown}
 

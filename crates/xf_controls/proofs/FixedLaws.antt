@@ -2,18 +2,18 @@
 use Rattle.std.proofs.Common.{◌≡◌, ℕ, ◌+◌, ◌<◌, ◌≤◌, Bool, true, false, not, ◌&&◌, ◌||◌, List, [], ◌∷◌, map, length, get_or, drop, refl, sym, ap, ◌∙◌, subst}
 use Rattle.std.specs.List.{list_all}
 use Rattle.std.proofs.lemmas.List.{drop_all, drop_more}
-use Rattle.xf_ast.specs.declared.expr.Expr.{Expr}
-use Rattle.xf_ast.specs.declared.expr.Start.{Start}
-use Rattle.xf_ast.specs.declared.expr.Step.{Step}
-use Rattle.xf_ast.specs.declared.expr.Expr.TheOpen.{Expr-F}
-use Rattle.xf_ast.specs.declared.expr.Expr.TheFolds.{fold-roll-Expr, fold-Step, fold_out-Step}
-use Rattle.xf_ast.specs.declared.expr.Expr.TheVariants.{Number, Literal, Call, Path, From, rolls-Number, rolls-Literal, rolls-Call, rolls-Path, rolls-From}
-use Rattle.xf_plain_values.specs.Conversions.{Decimal}
-use Rattle.xf_lang.specs.AskedSteps.{goes_up, is_kind, meets_texts}
-use Rattle.xf_lang.specs.Exact.{Facts, LinkFacts, all_placed, expr_facts, facts_of, is_sibling, link_facts, step_facts}
-use Rattle.xf_lang.specs.Quiet.{Quiet, LinkQuiet, all_silent, expr_quiet, link_quiet, quiet_of, step_quiet}
-use Rattle.xf_model.specs.Pertinent.{AllOf}
-use Rattle.xf_bound_laws.specs.Fixed.{IsPlace}
+use Rattle.xf_def_syntax.specs.declared.expr.Expr.{Expr}
+use Rattle.xf_def_syntax.specs.declared.expr.Start.{Start}
+use Rattle.xf_def_syntax.specs.declared.expr.Step.{Step}
+use Rattle.xf_def_syntax.specs.declared.expr.Expr.TheOpen.{Expr-F}
+use Rattle.xf_def_syntax.specs.declared.expr.Expr.TheFolds.{fold-roll-Expr, fold-Step, fold_out-Step}
+use Rattle.xf_def_syntax.specs.declared.expr.Expr.TheVariants.{Number, Literal, Call, Path, From, rolls-Number, rolls-Literal, rolls-Call, rolls-Path, rolls-From}
+use Rattle.xf_def_values.specs.Conversions.{Decimal}
+use Rattle.xf_def_xpath.specs.AskedSteps.{goes_up, is_kind, meets_texts}
+use Rattle.xf_def_xpath.specs.Exact.{Facts, LinkFacts, all_placed, expr_facts, facts_of, is_sibling, link_facts, step_facts}
+use Rattle.xf_def_xpath.specs.Quiet.{Quiet, LinkQuiet, all_silent, expr_quiet, link_quiet, quiet_of, step_quiet}
+use Rattle.xf_def_model.specs.Pertinent.{AllOf}
+use Rattle.xf_law_bindings.specs.Fixed.{IsPlace}
 use Rattle.xf_controls.specs.Fixed.{IsPlaceStep, IsWritten}
 
 -- ---- what holds of each, as a loop comes to it

@@ -3,11 +3,11 @@ use Rattle.std.proofs.Common.{◌≡◌, ℕ, zero, suc, ◌+◌, true, ◌&&◌
 use Rattle.std.specs.List.{flat_map, list_all}
 use Rattle.std.proofs.lemmas.Bool.{and_parts}
 use Rattle.std.proofs.lemmas.Bool.Decides.{nat_tests}
-use Rattle.xf_ast.specs.declared.element.Part.{Part}
-use Rattle.xf_ast.specs.declared.element.Part.TheVariants as part
-use Rattle.xf_ast.specs.Ordered.{child_in, is_none, is_parent, numbered_from}
-use Rattle.xf_ui.specs.Interface.{Element, Interface}
-use Rattle.xf_ui.specs.Elements.{element_at, no_element}
+use Rattle.xf_def_syntax.specs.declared.element.Part.{Part}
+use Rattle.xf_def_syntax.specs.declared.element.Part.TheVariants as part
+use Rattle.xf_def_syntax.specs.Ordered.{child_in, is_none, is_parent, numbered_from}
+use Rattle.xf_def_ui.specs.Interface.{Element, Interface}
+use Rattle.xf_def_ui.specs.Elements.{element_at, no_element}
 use Rattle.xf_controls.specs.Plain.{are_children, is_plain, is_plain_sort, is_top, stands_plainly}
 use Rattle.xf_controls.proofs.PlaceLaws.{stand-all}
 use Rattle.xf_controls.proofs.BelowLaws.{EachChild, Parents}

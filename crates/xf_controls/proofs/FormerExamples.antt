@@ -1,6 +1,6 @@
 -- Values that copies had before, put back, and lists that stand aside.
 use Rattle.std.proofs.Common.{◌≡◌, ℕ, true, false, List, [], ◌∷◌, Some, None, refl, codes}
-use Rattle.xf_doc.specs.declared.node.NodeId.{NodeId}
+use Rattle.xf_def_forest.specs.declared.node.NodeId.{NodeId}
 use Rattle.xf_controls.specs.declared.copy.ControlCopy.{ControlCopy}
 use Rattle.xf_controls.specs.declared.shown.Former.{Former}
 use Rattle.xf_controls.specs.Former.{kept_in, node_at, others, put_back, value_at, with_value_at}

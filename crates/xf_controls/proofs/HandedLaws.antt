@@ -2,15 +2,15 @@
 use Rattle.std.proofs.Common.{◌≡◌, ℕ, Bool, true, false, cond, ◌&&◌, List, [], ◌∷◌, Option, Some, None, option_map, refl, sym, ap, ◌∙◌}
 use Rattle.std.specs.Prelude.{filter}
 use Rattle.std.specs.List.{list_all}
-use Rattle.xf_ui.specs.declared.answers.Item.{Item}
-use Rattle.xf_lang.specs.Setting.{Focus, ◌>>=◌, each}
-use Rattle.xf_ui.specs.Interface.{Bound, unbound, nodes, by_bind, Sort, Element, Interface, other, one_case, repeated, field, output, select}
-use Rattle.xf_ui.specs.Elements.{element_at, ancestors, is_container, is_control}
-use Rattle.xf_ui.specs.Around.{Around, first_bound}
-use Rattle.xf_ui.specs.Context.{Inside, Place, free, Context, enter, enter_bound, enter_by, enter_sent, focus_in, inside, context_in, context_of, scope_of}
-use Rattle.xf_ui.specs.Cases.{if_case, is_in_selected}
-use Rattle.xf_ui.specs.declared.marks.Marks.{Marks}
-use Rattle.xf_ui.specs.Copies.{Copy, copy_of, copy_with, is_enabled, is_open, is_open_by, items_if, marks_if, node_of, own_binding, value_by}
+use Rattle.xf_def_ui.specs.declared.answers.Item.{Item}
+use Rattle.xf_def_xpath.specs.Setting.{Focus, ◌>>=◌, each}
+use Rattle.xf_def_ui.specs.Interface.{Bound, unbound, nodes, by_bind, Sort, Element, Interface, other, one_case, repeated, field, output, select}
+use Rattle.xf_def_ui.specs.Elements.{element_at, ancestors, is_container, is_control}
+use Rattle.xf_def_ui.specs.Around.{Around, first_bound}
+use Rattle.xf_def_ui.specs.Context.{Inside, Place, free, Context, enter, enter_bound, enter_by, enter_sent, focus_in, inside, context_in, context_of, scope_of}
+use Rattle.xf_def_ui.specs.Cases.{if_case, is_in_selected}
+use Rattle.xf_def_ui.specs.declared.marks.Marks.{Marks}
+use Rattle.xf_def_ui.specs.Copies.{Copy, copy_of, copy_with, is_enabled, is_open, is_open_by, items_if, marks_if, node_of, own_binding, value_by}
 use Rattle.xf_controls.specs.Plain.{is_plain, is_plain_sort}
 use Rattle.xf_controls.specs.Handed.{Handed, inside_of, place_for, node_in, place_below, open_below, handed_by, copy_by}
 use Rattle.xf_controls.proofs.PlaceLaws.{plain-at}

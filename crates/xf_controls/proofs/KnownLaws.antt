@@ -2,18 +2,18 @@
 use Rattle.std.proofs.Common.{◌≡◌, ℕ, zero, suc, ◌<◌, Bool, true, false, List, [], ◌∷◌, length, get_or, Option, Some, None, option_map, refl, sym, ap, ◌∙◌, subst, arith}
 use Rattle.std.specs.Prelude.{slice_get}
 use Rattle.std.proofs.lemmas.List.{length-map}
-use Rattle.xf_ast.specs.declared.element.Element as written
-use Rattle.xf_ast.specs.declared.element.Part.{Part}
-use Rattle.xf_ast.specs.declared.element.Part.TheVariants as part
-use Rattle.xf_ast.specs.declared.form.Form.{Form}
-use Rattle.xf_doc.specs.declared.content.Node.{Node}
-use Rattle.xf_doc.specs.declared.node.NodeId.{NodeId}
-use Rattle.xf_lang.specs.Setting.{◌>>=◌}
-use Rattle.xf_ui.specs.declared.marks.Marks.{Marks}
-use Rattle.xf_ui.specs.Interface.{Interface, element_of, interface_of, sort_of}
-use Rattle.xf_ui.specs.Elements.{element_at, ancestors, is_control}
-use Rattle.xf_ui.specs.Around.{Around}
-use Rattle.xf_ui.specs.Context.{enter, inside}
+use Rattle.xf_def_syntax.specs.declared.element.Element as written
+use Rattle.xf_def_syntax.specs.declared.element.Part.{Part}
+use Rattle.xf_def_syntax.specs.declared.element.Part.TheVariants as part
+use Rattle.xf_def_syntax.specs.declared.form.Form.{Form}
+use Rattle.xf_def_forest.specs.declared.content.Node.{Node}
+use Rattle.xf_def_forest.specs.declared.node.NodeId.{NodeId}
+use Rattle.xf_def_xpath.specs.Setting.{◌>>=◌}
+use Rattle.xf_def_ui.specs.declared.marks.Marks.{Marks}
+use Rattle.xf_def_ui.specs.Interface.{Interface, element_of, interface_of, sort_of}
+use Rattle.xf_def_ui.specs.Elements.{element_at, ancestors, is_control}
+use Rattle.xf_def_ui.specs.Around.{Around}
+use Rattle.xf_def_ui.specs.Context.{enter, inside}
 use Rattle.xf_controls.specs.declared.known.Known.{Known}
 use Rattle.xf_controls.specs.Handed.{Handed, first_handed, handed_by, inside_of, node_in}
 use Rattle.xf_controls.specs.Known.{AreKnown, IsReached, KnowsNode, known_at, known_for}

@@ -1,11 +1,11 @@
 -- Nodes that stand in the forest, and the first of some.
 use Rattle.std.proofs.Common.{◌≡◌, ℕ, List, [], ◌∷◌, Option, Some, None, option_map, refl, sym, ap, slice_get}
 use Rattle.std.specs.Prelude.{MatchOption}
-use Rattle.xf_doc.specs.declared.content.Node.{Node}
-use Rattle.xf_doc.specs.declared.node.NodeId.{NodeId}
-use Rattle.xf_doc.specs.Visit.{first_of, parent_of, visits}
-use Rattle.xf_doc.proofs.LiveLaws.{parent-live}
-use Rattle.xf_lang.specs.Binding.{as_list}
+use Rattle.xf_def_forest.specs.declared.content.Node.{Node}
+use Rattle.xf_def_forest.specs.declared.node.NodeId.{NodeId}
+use Rattle.xf_def_forest.specs.Visit.{first_of, parent_of, visits}
+use Rattle.xf_def_forest.proofs.LiveLaws.{parent-live}
+use Rattle.xf_def_xpath.specs.Binding.{as_list}
 use Rattle.xf_eval.specs.Live.{AllLive}
 use Rattle.xf_eval.proofs.Lives.{live-get, live-is, live-one}
 use Rattle.xf_controls.specs.Seen.{number}

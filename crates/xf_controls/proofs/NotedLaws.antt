@@ -1,20 +1,20 @@
 -- The nodes of copies are those that their elements bind, and what is noted of them is so.
 use Rattle.std.proofs.Common.{◌≡◌, ℕ, zero, suc, ◌<◌, Bool, true, false, List, [], ◌∷◌, map, length, get_or, Option, Some, None, option_map, refl, sym, ap, ◌∙◌, subst, inl, inr, arith}
 use Rattle.std.specs.Prelude.{replicate, slice_get, slice_set, ◌⊎◌}
-use Rattle.xf_ast.specs.declared.form.Form.{Form}
-use Rattle.xf_doc.specs.declared.content.Node.{Node}
-use Rattle.xf_doc.specs.declared.node.NodeId.{NodeId}
-use Rattle.xf_lang.specs.Given.{Given}
-use Rattle.xf_lang.specs.Setting.{◌>>=◌, each}
-use Rattle.xf_ui.specs.declared.answers.Item.{Item}
-use Rattle.xf_ui.specs.declared.marks.Marks.{Marks}
-use Rattle.xf_ui.specs.Interface.{Interface, Sort, interface_of, repeated}
-use Rattle.xf_ui.specs.Elements.{element_at, ancestors, is_repeat_sort}
-use Rattle.xf_ui.specs.Around.{Around}
-use Rattle.xf_ui.specs.Context.{Context, context_of}
-use Rattle.xf_ui.specs.Copies.{Copy, copies, copy_of, copy_with, is_enabled, items_if, marks_if, node_of, own_binding, value_by}
-use Rattle.xf_ui.specs.Places.{places}
-use Rattle.xf_bound_laws.specs.Fixed.{AllFixed, IsFixed, IsFixedElement}
+use Rattle.xf_def_syntax.specs.declared.form.Form.{Form}
+use Rattle.xf_def_forest.specs.declared.content.Node.{Node}
+use Rattle.xf_def_forest.specs.declared.node.NodeId.{NodeId}
+use Rattle.xf_def_xpath.specs.Given.{Given}
+use Rattle.xf_def_xpath.specs.Setting.{◌>>=◌, each}
+use Rattle.xf_def_ui.specs.declared.answers.Item.{Item}
+use Rattle.xf_def_ui.specs.declared.marks.Marks.{Marks}
+use Rattle.xf_def_ui.specs.Interface.{Interface, Sort, interface_of, repeated}
+use Rattle.xf_def_ui.specs.Elements.{element_at, ancestors, is_repeat_sort}
+use Rattle.xf_def_ui.specs.Around.{Around}
+use Rattle.xf_def_ui.specs.Context.{Context, context_of}
+use Rattle.xf_def_ui.specs.Copies.{Copy, copies, copy_of, copy_with, is_enabled, items_if, marks_if, node_of, own_binding, value_by}
+use Rattle.xf_def_ui.specs.Places.{places}
+use Rattle.xf_law_bindings.specs.Fixed.{AllFixed, IsFixed, IsFixedElement}
 use Rattle.xf_controls.specs.declared.copy.ControlCopy.{ControlCopy}
 use Rattle.xf_controls.specs.declared.known.Known.{Known}
 use Rattle.xf_controls.specs.declared.known.Known.TheVariants.{Unknown, Is}

@@ -1,6 +1,6 @@
 -- Lists of what may be too long.
 use Rattle.std.proofs.Common.{◌≡◌, List, [], ◌∷◌, ◌++◌, map, Option, Some, None, option_map, refl, sym, ap, ◌∙◌, append_assoc}
-use Rattle.xf_lang.specs.Setting.{◌>>=◌, each}
+use Rattle.xf_def_xpath.specs.Setting.{◌>>=◌, each}
 
 pub bind-some : {A : Type 0} (m : Option A) → (m >>= λ x. Some x) ≡ m
 bind-some None = refl

@@ -2,11 +2,11 @@
 use Rattle.std.proofs.Common.{◌≡◌, ℕ, zero, suc, ◌<◌, ◌≤◌, List, [], ◌∷◌, ◌++◌, length, Option, Some, None, refl, ap, ◌∙◌, arith}
 use Rattle.std.specs.Prelude.{reverse}
 use Rattle.std.proofs.lemmas.List.{map-append, reverse-append}
-use Rattle.xf_lang.specs.Setting.{◌>>=◌}
-use Rattle.xf_ui.specs.Interface.{Element, Interface}
-use Rattle.xf_ui.specs.Elements.{element_at, above, ancestors, path_to, elements_on}
-use Rattle.xf_ui.specs.Around.{Around}
-use Rattle.xf_ui.specs.Context.{Inside, enter, entered, inside, free}
+use Rattle.xf_def_xpath.specs.Setting.{◌>>=◌}
+use Rattle.xf_def_ui.specs.Interface.{Element, Interface}
+use Rattle.xf_def_ui.specs.Elements.{element_at, above, ancestors, path_to, elements_on}
+use Rattle.xf_def_ui.specs.Around.{Around}
+use Rattle.xf_def_ui.specs.Context.{Inside, enter, entered, inside, free}
 use Rattle.xf_controls.proofs.OptionLaws.{bind-some}
 
 -- ---- ancestors

@@ -3,13 +3,13 @@ use Rattle.std.proofs.Common.{◌≡◌, ℕ, zero, suc, Bool, true, false, ◌|
 use Rattle.std.specs.List.{flat_map, list_all}
 use Rattle.std.proofs.lemmas.Bool.{and_parts}
 use Rattle.std.proofs.lemmas.List.Folds.{flat_map-map}
-use Rattle.xf_ast.specs.declared.element.Part.{Part}
-use Rattle.xf_ast.specs.declared.element.Part.TheVariants as part
-use Rattle.xf_ast.specs.Ordered.{child_in, is_none, numbered_from}
-use Rattle.xf_ui.specs.Interface.{Sort, Element, Interface, repeated}
-use Rattle.xf_ui.specs.Elements.{element_at, no_element, children, is_control}
-use Rattle.xf_ui.specs.Around.{Around}
-use Rattle.xf_ui.specs.Places.{Places, places_at, places_by, places_in, all_places, if_control}
+use Rattle.xf_def_syntax.specs.declared.element.Part.{Part}
+use Rattle.xf_def_syntax.specs.declared.element.Part.TheVariants as part
+use Rattle.xf_def_syntax.specs.Ordered.{child_in, is_none, numbered_from}
+use Rattle.xf_def_ui.specs.Interface.{Sort, Element, Interface, repeated}
+use Rattle.xf_def_ui.specs.Elements.{element_at, no_element, children, is_control}
+use Rattle.xf_def_ui.specs.Around.{Around}
+use Rattle.xf_def_ui.specs.Places.{Places, places_at, places_by, places_in, all_places, if_control}
 use Rattle.xf_controls.specs.Plain.{are_children, is_plain, is_plain_sort, is_top, stands_plainly}
 use Rattle.xf_controls.specs.Below.{shows, some_shown}
 use Rattle.xf_controls.proofs.OptionLaws.{each-some}

@@ -2,23 +2,23 @@
 use Rattle.std.proofs.Common.{◌≡◌, ℕ, zero, suc, ◌+◌, Bool, true, false, cond, not, ◌&&◌, List, [], ◌∷◌, ◌++◌, map, length, Option, Some, None, option_map, refl, sym, ap, ◌∙◌, subst}
 use Rattle.std.specs.Prelude.{filter, fold, nat_lt, sum_by}
 use Rattle.std.specs.List.{flat_map, list_all}
-use Rattle.xf_ast.specs.declared.form.Form.{Form}
-use Rattle.xf_doc.specs.declared.content.Node.{Node}
-use Rattle.xf_doc.specs.declared.node.NodeId.{NodeId}
-use Rattle.xf_lang.specs.Given.{Given}
-use Rattle.xf_lang.specs.Setting.{◌>>=◌, each}
-use Rattle.xf_lang.specs.Binding.{as_list}
+use Rattle.xf_def_syntax.specs.declared.form.Form.{Form}
+use Rattle.xf_def_forest.specs.declared.content.Node.{Node}
+use Rattle.xf_def_forest.specs.declared.node.NodeId.{NodeId}
+use Rattle.xf_def_xpath.specs.Given.{Given}
+use Rattle.xf_def_xpath.specs.Setting.{◌>>=◌, each}
+use Rattle.xf_def_xpath.specs.Binding.{as_list}
 use Rattle.xf_eval.specs.Live.{AllLive}
-use Rattle.xf_model.specs.Pertinent.{AllOf}
-use Rattle.xf_ui.specs.declared.marks.Marks.{Marks}
-use Rattle.xf_ui.specs.Interface.{Bound, unbound, nodes, by_bind, Interface, Sort, interface_of, output}
-use Rattle.xf_ui.specs.Elements.{element_at, ancestors, children, is_container, is_control}
-use Rattle.xf_ui.specs.Around.{Around, first_bound}
-use Rattle.xf_ui.specs.Cases.{is_in_selected}
-use Rattle.xf_ui.specs.Context.{Context, context_of}
-use Rattle.xf_ui.specs.Index.{Index}
-use Rattle.xf_ui.specs.Copies.{Copy, copies, copy_count, copy_of, copy_with, is_enabled, is_open, is_open_by, items_if, marks_if, node_of, own_binding, relevant_if, value_by, with_containers}
-use Rattle.xf_ui.specs.Places.{Places, if_control, places}
+use Rattle.xf_def_model.specs.Pertinent.{AllOf}
+use Rattle.xf_def_ui.specs.declared.marks.Marks.{Marks}
+use Rattle.xf_def_ui.specs.Interface.{Bound, unbound, nodes, by_bind, Interface, Sort, interface_of, output}
+use Rattle.xf_def_ui.specs.Elements.{element_at, ancestors, children, is_container, is_control}
+use Rattle.xf_def_ui.specs.Around.{Around, first_bound}
+use Rattle.xf_def_ui.specs.Cases.{is_in_selected}
+use Rattle.xf_def_ui.specs.Context.{Context, context_of}
+use Rattle.xf_def_ui.specs.Index.{Index}
+use Rattle.xf_def_ui.specs.Copies.{Copy, copies, copy_count, copy_of, copy_with, is_enabled, is_open, is_open_by, items_if, marks_if, node_of, own_binding, relevant_if, value_by, with_containers}
+use Rattle.xf_def_ui.specs.Places.{Places, if_control, places}
 use Rattle.xf_controls.specs.declared.copy.ControlCopy.{ControlCopy}
 use Rattle.xf_controls.specs.declared.known.Known.{Known}
 use Rattle.xf_controls.specs.Bound.{AllBound}

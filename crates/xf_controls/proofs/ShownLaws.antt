@@ -6,14 +6,14 @@ use Rattle.std.specs.Bool.{OnFalse, OnTrue}
 use Rattle.std.proofs.lemmas.Slice.Eq.{bytes_eq-Decides}
 use Rattle.std.proofs.lemmas.Bool.Decides.{nat_tests}
 use Rattle.xf_base.specs.Limits.{string_limit}
-use Rattle.xf_doc.specs.declared.content.Node.{Node}
-use Rattle.xf_doc.specs.StringValue.{pieces, string_value, whole}
-use Rattle.xf_doc.specs.Visit.{Visit}
-use Rattle.xf_doc.proofs.PieceLaws.{whole-value}
-use Rattle.xf_lang.specs.Setting.{◌>>=◌, capped}
-use Rattle.xf_lang.proofs.VisitFacts.{self-same}
-use Rattle.xf_ui.specs.Copies.{Copy}
-use Rattle.xf_ui.specs.Notifications.{Notification, is_same_copy, names_of, notifications, same_value, state_names, told, told_since, value_names}
+use Rattle.xf_def_forest.specs.declared.content.Node.{Node}
+use Rattle.xf_def_forest.specs.StringValue.{pieces, string_value, whole}
+use Rattle.xf_def_forest.specs.Visit.{Visit}
+use Rattle.xf_def_forest.proofs.PieceLaws.{whole-value}
+use Rattle.xf_def_xpath.specs.Setting.{◌>>=◌, capped}
+use Rattle.xf_def_xpath.proofs.VisitFacts.{self-same}
+use Rattle.xf_def_ui.specs.Copies.{Copy}
+use Rattle.xf_def_ui.specs.Notifications.{Notification, is_same_copy, names_of, notifications, same_value, state_names, told, told_since, value_names}
 use Rattle.xf_controls.specs.declared.copy.ControlCopy.{ControlCopy}
 use Rattle.xf_controls.specs.declared.shown.Former.{Former}
 use Rattle.xf_controls.specs.Former.{kept_in, node_at, others, put_back, told_if, value_at, with_value_at}

@@ -3,8 +3,8 @@ use Rattle.std.proofs.Common.{◌≡◌, ◌==◌, ℕ, zero, suc, ◌<◌, ◌�
 use Rattle.std.specs.Prelude.{find, nat_lt, bytes_eq}
 use Rattle.std.proofs.lemmas.Bool.{and_parts}
 use Rattle.std.proofs.lemmas.Bool.Decides.{nat_tests}
-use Rattle.xf_ui.specs.Copies.{Copy}
-use Rattle.xf_ui.specs.Notifications.{Notification, is_same_copy, told}
+use Rattle.xf_def_ui.specs.Copies.{Copy}
+use Rattle.xf_def_ui.specs.Notifications.{Notification, is_same_copy, told}
 use Rattle.xf_controls.specs.declared.copy.ControlCopy.{ControlCopy}
 use Rattle.xf_controls.specs.Rising.{rises_from}
 use Rattle.xf_controls.specs.Seen.{seen_copy}

@@ -1,15 +1,15 @@
 -- One level of the walk over a form, with the copies that come behind others.
 use Rattle.std.proofs.Common.{◌≡◌, ℕ, zero, suc, true, false, List, [], ◌++◌, Option, Some, None, option_map, refl, sym, ap, ◌∙◌}
-use Rattle.xf_ast.specs.declared.element.Element as written
-use Rattle.xf_ast.specs.declared.form.Form.{Form}
+use Rattle.xf_def_syntax.specs.declared.element.Element as written
+use Rattle.xf_def_syntax.specs.declared.form.Form.{Form}
 use Rattle.std.specs.Prelude.{slice_get}
-use Rattle.xf_lang.specs.Setting.{Focus, ◌>>=◌}
-use Rattle.xf_ui.specs.declared.marks.Marks.{Marks}
-use Rattle.xf_ui.specs.Interface.{Element, Interface, element_of, interface_of, unbound}
-use Rattle.xf_ui.specs.Elements.{is_control, no_element}
-use Rattle.xf_ui.specs.Around.{Around, first_bound}
-use Rattle.xf_ui.specs.Context.{focus_in}
-use Rattle.xf_ui.specs.Copies.{Copy}
+use Rattle.xf_def_xpath.specs.Setting.{Focus, ◌>>=◌}
+use Rattle.xf_def_ui.specs.declared.marks.Marks.{Marks}
+use Rattle.xf_def_ui.specs.Interface.{Element, Interface, element_of, interface_of, unbound}
+use Rattle.xf_def_ui.specs.Elements.{is_control, no_element}
+use Rattle.xf_def_ui.specs.Around.{Around, first_bound}
+use Rattle.xf_def_ui.specs.Context.{focus_in}
+use Rattle.xf_def_ui.specs.Copies.{Copy}
 use Rattle.xf_controls.specs.Handed.{Handed, node_in, handed_by, copy_by}
 use Rattle.xf_controls.specs.Below.{copies_by, copies_from, if_control, is_passed, of_parts, unless}
 use Rattle.xf_controls.proofs.CodeLaws.{no-element, this-element, put-step, put-lost}

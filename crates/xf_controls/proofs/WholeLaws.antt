@@ -2,20 +2,20 @@
 use Rattle.std.proofs.Common.{◌≡◌, ℕ, zero, suc, ◌+◌, ◌≤◌, true, List, [], ◌++◌, length, Option, Some, None, option_map, refl, sym, ap, ◌∙◌, arith}
 use Rattle.std.specs.List.{flat_map}
 use Rattle.std.specs.Prelude.{reverse}
-use Rattle.xf_ast.specs.declared.form.Form.{Form}
-use Rattle.xf_ast.specs.declared.form.Tables.{Tables}
-use Rattle.xf_doc.specs.declared.content.Node.{Node}
-use Rattle.xf_lang.specs.Given.{Given}
-use Rattle.xf_lang.specs.Setting.{◌>>=◌, each}
+use Rattle.xf_def_syntax.specs.declared.form.Form.{Form}
+use Rattle.xf_def_syntax.specs.declared.form.Tables.{Tables}
+use Rattle.xf_def_forest.specs.declared.content.Node.{Node}
+use Rattle.xf_def_xpath.specs.Given.{Given}
+use Rattle.xf_def_xpath.specs.Setting.{◌>>=◌, each}
 use Rattle.std.proofs.lemmas.List.{length-map}
-use Rattle.xf_ui.specs.Interface.{Interface, element_of, interface_of}
-use Rattle.xf_ui.specs.Elements.{element_at, above, ancestors, elements_on}
-use Rattle.xf_ui.specs.Around.{Around}
-use Rattle.xf_ui.specs.Context.{entered}
-use Rattle.xf_ui.specs.Index.{Index, if_named, index_of, named_indexes, seeing}
-use Rattle.xf_ui.specs.Places.{places}
-use Rattle.xf_ui.specs.declared.marks.Marks.{Marks}
-use Rattle.xf_ui.specs.Copies.{Copy, copies}
+use Rattle.xf_def_ui.specs.Interface.{Interface, element_of, interface_of}
+use Rattle.xf_def_ui.specs.Elements.{element_at, above, ancestors, elements_on}
+use Rattle.xf_def_ui.specs.Around.{Around}
+use Rattle.xf_def_ui.specs.Context.{entered}
+use Rattle.xf_def_ui.specs.Index.{Index, if_named, index_of, named_indexes, seeing}
+use Rattle.xf_def_ui.specs.Places.{places}
+use Rattle.xf_def_ui.specs.declared.marks.Marks.{Marks}
+use Rattle.xf_def_ui.specs.Copies.{Copy, copies}
 use Rattle.xf_controls.specs.Plain.{is_plain}
 use Rattle.xf_controls.specs.Surrounded.{IsQuiet, around_in}
 use Rattle.xf_controls.specs.Handed.{Handed, first_handed}

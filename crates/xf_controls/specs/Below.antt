@@ -1,13 +1,13 @@
 -- The copies of an element and of those in it, where what is around is handed down (XForms 1.1, section 9).
 use Rattle.std.specs.Prelude.{ℕ, zero, suc, Bool, true, false, not, ◌&&◌, ◌||◌, List, [], ◌∷◌, ◌++◌, Option, Some, option_map}
-use Rattle.xf_ast.specs.declared.element.Part.{Part}
-use Rattle.xf_ast.specs.declared.element.Part.TheVariants as part
-use Rattle.xf_lang.specs.Setting.{◌>>=◌}
-use Rattle.xf_ui.specs.Interface.{Bound, unbound, Element, Interface}
-use Rattle.xf_ui.specs.Elements.{element_at, is_control}
-use Rattle.xf_ui.specs.Around.{Around}
-use Rattle.xf_ui.specs.declared.marks.Marks.{Marks}
-use Rattle.xf_ui.specs.Copies.{Copy}
+use Rattle.xf_def_syntax.specs.declared.element.Part.{Part}
+use Rattle.xf_def_syntax.specs.declared.element.Part.TheVariants as part
+use Rattle.xf_def_xpath.specs.Setting.{◌>>=◌}
+use Rattle.xf_def_ui.specs.Interface.{Bound, unbound, Element, Interface}
+use Rattle.xf_def_ui.specs.Elements.{element_at, is_control}
+use Rattle.xf_def_ui.specs.Around.{Around}
+use Rattle.xf_def_ui.specs.declared.marks.Marks.{Marks}
+use Rattle.xf_def_ui.specs.Copies.{Copy}
 use Rattle.xf_controls.specs.Handed.{Handed, node_in, handed_by, copy_by}
 
 -- ---- whether there is one

@@ -1,9 +1,9 @@
 -- Forms of which it is known what each control and container binds, whatever texts the data have, and in which nothing is shown but the values of
 -- these nodes.
 use Rattle.std.specs.Prelude.{ℕ, ◌≡◌, true, List, Option, Some, None}
-use Rattle.xf_doc.specs.declared.node.NodeId.{NodeId}
-use Rattle.xf_ui.specs.Interface.{Interface, Sort}
-use Rattle.xf_ui.specs.Elements.{element_at, is_control}
+use Rattle.xf_def_forest.specs.declared.node.NodeId.{NodeId}
+use Rattle.xf_def_ui.specs.Interface.{Interface, Sort}
+use Rattle.xf_def_ui.specs.Elements.{element_at, is_control}
 use Rattle.xf_controls.specs.declared.known.Known.{Known}
 use Rattle.xf_controls.specs.Handed.{printed_in}
 use Rattle.xf_controls.specs.Known.{known_at, known_if}

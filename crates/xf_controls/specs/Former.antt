@@ -1,7 +1,7 @@
 -- Values that copies had before, each with the place of its copy.
 use Rattle.std.specs.Prelude.{ℕ, zero, suc, Bool, true, false, List, [], ◌∷◌, ◌++◌, codes, Option, Some, None}
-use Rattle.xf_doc.specs.declared.node.NodeId.{NodeId}
-use Rattle.xf_ui.specs.Notifications.{Notification, same_value}
+use Rattle.xf_def_forest.specs.declared.node.NodeId.{NodeId}
+use Rattle.xf_def_ui.specs.Notifications.{Notification, same_value}
 use Rattle.xf_controls.specs.declared.copy.ControlCopy.{ControlCopy}
 use Rattle.xf_controls.specs.declared.shown.Former.{Former}
 use Rattle.xf_controls.specs.Renewed.{with_value}

@@ -1,8 +1,8 @@
 -- What an element binds, with what the properties of nodes say of that.
 use Rattle.std.specs.Prelude.{ℕ, ◌≡◌, option_map}
-use Rattle.xf_ui.specs.Interface.{Element}
-use Rattle.xf_ui.specs.declared.marks.Marks.{Marks}
-use Rattle.xf_ui.specs.Copies.{is_open_by, marks_if}
+use Rattle.xf_def_ui.specs.Interface.{Element}
+use Rattle.xf_def_ui.specs.declared.marks.Marks.{Marks}
+use Rattle.xf_def_ui.specs.Copies.{is_open_by, marks_if}
 use Rattle.xf_controls.specs.declared.over.Found.{Found}
 use Rattle.xf_controls.specs.Seen.{number}
 

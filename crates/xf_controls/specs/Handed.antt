@@ -1,13 +1,13 @@
 -- What the elements around an element give it, handed down from one to the next (XForms 1.1, sections 7.2, 8.1.1 and 9), in forms of which
 -- each control has one copy.
 use Rattle.std.specs.Prelude.{ℕ, Bool, true, ◌&&◌, [], Option, Some, None, if◌then◌else◌}
-use Rattle.xf_lang.specs.Setting.{Meaning, ◌>>=◌}
-use Rattle.xf_ui.specs.Interface.{Bound, unbound, Sort, Element, Interface, other, output}
-use Rattle.xf_ui.specs.Elements.{is_container}
-use Rattle.xf_ui.specs.Around.{Around, first_bound}
-use Rattle.xf_ui.specs.Context.{Inside, Place, free, place_of, focus_in, scope_of, context_in}
-use Rattle.xf_ui.specs.declared.marks.Marks.{Marks}
-use Rattle.xf_ui.specs.Copies.{Copy, copy_with, is_open_by, marks_if, value_by}
+use Rattle.xf_def_xpath.specs.Setting.{Meaning, ◌>>=◌}
+use Rattle.xf_def_ui.specs.Interface.{Bound, unbound, Sort, Element, Interface, other, output}
+use Rattle.xf_def_ui.specs.Elements.{is_container}
+use Rattle.xf_def_ui.specs.Around.{Around, first_bound}
+use Rattle.xf_def_ui.specs.Context.{Inside, Place, free, place_of, focus_in, scope_of, context_in}
+use Rattle.xf_def_ui.specs.declared.marks.Marks.{Marks}
+use Rattle.xf_def_ui.specs.Copies.{Copy, copy_with, is_open_by, marks_if, value_by}
 
 pub record Handed : Type 0 where
   pub model : ℕ

@@ -1,13 +1,13 @@
 -- What is known of the nodes that elements bind: where something is, it is what the definition gives.
 use Rattle.std.specs.Prelude.{ℕ, ◌≡◌, ◌+◌, ◌≤◌, Bool, true, false, List, [], ◌∷◌, length, slice_get, slice_set, ◌⊎◌, Option, Some, None, option_map}
-use Rattle.xf_doc.specs.declared.content.Node.{Node}
-use Rattle.xf_doc.specs.declared.node.NodeId.{NodeId}
-use Rattle.xf_ui.specs.Interface.{Interface}
-use Rattle.xf_ui.specs.Elements.{ancestors}
-use Rattle.xf_ui.specs.Around.{Around}
-use Rattle.xf_ui.specs.Context.{inside}
-use Rattle.xf_ui.specs.Copies.{node_of}
-use Rattle.xf_bound_laws.specs.Fixed.{AllFixed}
+use Rattle.xf_def_forest.specs.declared.content.Node.{Node}
+use Rattle.xf_def_forest.specs.declared.node.NodeId.{NodeId}
+use Rattle.xf_def_ui.specs.Interface.{Interface}
+use Rattle.xf_def_ui.specs.Elements.{ancestors}
+use Rattle.xf_def_ui.specs.Around.{Around}
+use Rattle.xf_def_ui.specs.Context.{inside}
+use Rattle.xf_def_ui.specs.Copies.{node_of}
+use Rattle.xf_law_bindings.specs.Fixed.{AllFixed}
 use Rattle.xf_controls.specs.declared.copy.ControlCopy.{ControlCopy}
 use Rattle.xf_controls.specs.declared.known.Known.{Known}
 use Rattle.xf_controls.specs.declared.known.Known.TheVariants.{Unknown, Is}

@@ -2,9 +2,9 @@
 -- 8.1.10, 8.1.11, 9.2 and 9.3).
 use Rattle.std.specs.Prelude.{ℕ, Bool, true, false, ◌&&◌, List, Option, Some, None}
 use Rattle.std.specs.List.{flat_map, list_all}
-use Rattle.xf_ast.specs.Ordered.{child_in, is_none, is_parent, numbered_from}
-use Rattle.xf_ui.specs.Interface.{Sort, Element, Interface, switch, one_case, repeated, select}
-use Rattle.xf_ui.specs.Elements.{element_at}
+use Rattle.xf_def_syntax.specs.Ordered.{child_in, is_none, is_parent, numbered_from}
+use Rattle.xf_def_ui.specs.Interface.{Sort, Element, Interface, switch, one_case, repeated, select}
+use Rattle.xf_def_ui.specs.Elements.{element_at}
 
 abbrev pub is_plain_sort : Sort → Bool
 is_plain_sort (switch k) = false

@@ -1,9 +1,9 @@
 -- Copies over data of which texts alone have changed since they were made (XForms 1.1, section 4.3.4): they bind the same nodes, in the same states,
 -- and have the values that these nodes have now.
 use Rattle.std.specs.Prelude.{ℕ, List, Option, Some, None, option_map}
-use Rattle.xf_doc.specs.declared.content.Node.{Node}
-use Rattle.xf_lang.specs.Setting.{each}
-use Rattle.xf_model.specs.Pertinent.{AllOf}
+use Rattle.xf_def_forest.specs.declared.content.Node.{Node}
+use Rattle.xf_def_xpath.specs.Setting.{each}
+use Rattle.xf_def_model.specs.Pertinent.{AllOf}
 use Rattle.xf_controls.specs.declared.copy.ControlCopy.{ControlCopy}
 use Rattle.xf_controls.specs.Seen.{IsThere, number}
 use Rattle.xf_controls.specs.Surrounded.{string_in}

@@ -1,13 +1,13 @@
 -- Copies and surroundings, as code has them and as definitions do.
 use Rattle.std.specs.Prelude.{ℕ, Bool, ◌&&◌, List, Option, Some, None, option_map, bytes_eq, ◌==◌}
-use Rattle.xf_doc.specs.declared.content.Node.{Node}
-use Rattle.xf_doc.specs.declared.node.NodeId.{NodeId}
-use Rattle.xf_lang.specs.Binding.{as_list}
+use Rattle.xf_def_forest.specs.declared.content.Node.{Node}
+use Rattle.xf_def_forest.specs.declared.node.NodeId.{NodeId}
+use Rattle.xf_def_xpath.specs.Binding.{as_list}
 use Rattle.xf_eval.specs.Live.{AllLive}
-use Rattle.xf_ui.specs.Context as context
-use Rattle.xf_ui.specs.Copies as copies
-use Rattle.xf_ui.specs.Around.{alone}
-use Rattle.xf_ui.specs.Notifications as told
+use Rattle.xf_def_ui.specs.Context as context
+use Rattle.xf_def_ui.specs.Copies as copies
+use Rattle.xf_def_ui.specs.Around.{alone}
+use Rattle.xf_def_ui.specs.Notifications as told
 use Rattle.xf_controls.specs.declared.copy.ControlCopy.{ControlCopy}
 use Rattle.xf_controls.specs.declared.handed.Place.{Place}
 use Rattle.xf_controls.specs.declared.handed.Place.TheVariants as place

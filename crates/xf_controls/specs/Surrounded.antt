@@ -2,19 +2,19 @@
 -- (XForms 1.1, section 7).
 use Rattle.std.specs.Prelude.{ℕ, ◌≡◌, List, [], ◌∷◌, Option, Some, None, option_map}
 use Rattle.xf_base.specs.Limits.{string_limit}
-use Rattle.xf_ast.specs.declared.form.Tables.{Tables}
-use Rattle.xf_doc.specs.declared.content.Node.{Node}
-use Rattle.xf_doc.specs.Visit.{visits, first_of}
-use Rattle.xf_doc.specs.StringValue.{string_value}
+use Rattle.xf_def_syntax.specs.declared.form.Tables.{Tables}
+use Rattle.xf_def_forest.specs.declared.content.Node.{Node}
+use Rattle.xf_def_forest.specs.Visit.{visits, first_of}
+use Rattle.xf_def_forest.specs.StringValue.{string_value}
 use Rattle.xf_funcs.specs.Called.{called}
-use Rattle.xf_lang.specs.Given.{Given}
-use Rattle.xf_lang.specs.Setting.{Meaning, capped, setting_over}
-use Rattle.xf_lang.specs.Meaning.{text_worth}
-use Rattle.xf_lang.specs.Conversions.{nodes_of}
-use Rattle.xf_model.specs.Rules.{scope_of}
-use Rattle.xf_model.specs.Nested.{nested}
-use Rattle.xf_nested.specs.StandIns.{stand_ins_of}
-use Rattle.xf_ui.specs.Around.{Around, alone}
+use Rattle.xf_def_xpath.specs.Given.{Given}
+use Rattle.xf_def_xpath.specs.Setting.{Meaning, capped, setting_over}
+use Rattle.xf_def_xpath.specs.Meaning.{text_worth}
+use Rattle.xf_def_xpath.specs.Conversions.{nodes_of}
+use Rattle.xf_def_model.specs.Rules.{scope_of}
+use Rattle.xf_def_model.specs.Nested.{nested}
+use Rattle.xf_eval_context.specs.Nested.StandIns.{stand_ins_of}
+use Rattle.xf_def_ui.specs.Around.{Around, alone}
 
 abbrev pub around_in : Given → Tables → List Node → Around
 around_in given tables nodes = record {

@@ -9,7 +9,7 @@ ghost use Rattle.xf_controls.specs.Seen.{number};
 use crate::copy::ControlCopy;
 use indexmap::IndexMap;
 use std::alloc::{AllocError, Global};
-use xf_doc::NodeId;
+use xf_def_forest::NodeId;
 
 /// The copies of a list, whether each element has one at most, in document order, and the first place of a copy in each row.
 #[derive(Drop)]

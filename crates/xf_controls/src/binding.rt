@@ -1,27 +1,27 @@
 //! The node that an element binds (XForms 1.1, sections 3.2.3 and 3.2.4).
 
 ghost use Rattle.std.specs.Prelude.{◌≡◌, IfOk, map, option_map};
-ghost use Rattle.xf_plain_values.specs.Bounded.{GivesBounded};
+ghost use Rattle.xf_def_values.specs.Bounded.{GivesBounded};
 ghost use Rattle.xf_name.specs.declared.axis.Axis.TheVariants.{Child};
-ghost use Rattle.xf_doc.specs.Axis.{axis_of};
-ghost use Rattle.xf_doc.specs.Forest.{IsLive};
-ghost use Rattle.xf_doc.specs.Visit.{first_of, visits};
-ghost use Rattle.xf_lang.specs.Meaning.{meaning};
+ghost use Rattle.xf_def_forest.specs.Axis.{axis_of};
+ghost use Rattle.xf_def_forest.specs.Forest.{IsLive};
+ghost use Rattle.xf_def_forest.specs.Visit.{first_of, visits};
+ghost use Rattle.xf_def_xpath.specs.Meaning.{meaning};
 ghost use Rattle.xf_eval.specs.Live.{AroundStands};
-ghost use Rattle.xf_nested.specs.StandIns.{stand_ins_of};
-ghost use Rattle.xf_ui.specs.Around.{alone, first_bound};
-ghost use Rattle.xf_elements.specs.Bound.{seen_bound};
+ghost use Rattle.xf_eval_context.specs.Nested.StandIns.{stand_ins_of};
+ghost use Rattle.xf_def_ui.specs.Around.{alone, first_bound};
+ghost use Rattle.xf_form_elements.specs.Bound.{seen_bound};
 ghost use Rattle.xf_controls.specs.Below as below;
 ghost use Rattle.xf_controls.specs.Seen.{IsThere, number};
 ghost use Rattle.xf_controls.specs.Surrounded.{around_in, first_from};
 
 use std::alloc::Global;
-use xf_ast::{Expr, Tables};
-use xf_doc::{Kind as NodeKind, NodeId};
-use xf_elements::Bound;
+use xf_def_forest::{Kind as NodeKind, NodeId};
+use xf_def_syntax::{Expr, Tables};
 use xf_eval::{Around, Context, EvalFault, nodes_in, value_at};
+use xf_eval_context::nested::nested;
+use xf_form_elements::Bound;
 use xf_name::Axis;
-use xf_nested::nested;
 use xf_tree::Forest;
 
 pub(crate) fn is_bound(binding: Bound<'_>) -> bool

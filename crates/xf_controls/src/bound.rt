@@ -2,14 +2,14 @@
 
 ghost use Rattle.std.specs.Prelude.{◌≡◌, true, slice_get};
 ghost use Rattle.std.specs.Bool.{OnFalse, OnTrue};
-ghost use Rattle.xf_ui.specs.Interface.{interface_of, sort_of};
-ghost use Rattle.xf_ui.specs.Elements.{is_control};
+ghost use Rattle.xf_def_ui.specs.Interface.{interface_of, sort_of};
+ghost use Rattle.xf_def_ui.specs.Elements.{is_control};
 ghost use Rattle.xf_controls.specs.Bound.{AllBound, IsShownBy};
 
 use crate::element::{is_control, printed_in};
 use crate::known::{Known, KnownList};
-use xf_ast::{Element, Form};
-use xf_doc::NodeId;
+use xf_def_forest::NodeId;
+use xf_def_syntax::{Element, Form};
 
 /// Whether what is known tells of each control and container of the form what it binds, and each shows nothing but the value of its node.
 pub fn are_bound(form: &Form, known: &KnownList) -> bool

@@ -8,9 +8,9 @@ ghost use Rattle.xf_controls.specs.Seen.{is_copy_at, number, seen_copy};
 use std::alloc::{AllocError, Global};
 use std::marker::Model;
 use std::mem::replace;
-use xf_doc::{NodeId, NodeList};
+use xf_def_forest::{NodeId, NodeList};
+use xf_def_ui::ItemList;
 use xf_name::Word;
-use xf_ui::ItemList;
 
 /// A copy of a control or container (XForms 1.1, sections 8.1.1 and 9).
 #[derive(Drop)]

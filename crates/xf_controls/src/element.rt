@@ -2,16 +2,16 @@
 
 ghost use Rattle.std.specs.Prelude.{◌≡◌, map, option_map};
 ghost use Rattle.std.specs.List.{flat_map, list_all};
-ghost use Rattle.xf_ast.specs.Ordered.{child_in, is_parent, numbered_from};
-ghost use Rattle.xf_lang.specs.Meaning.{meaning};
-ghost use Rattle.xf_ui.specs.Elements.{element_at, is_container, is_control};
-ghost use Rattle.xf_ui.specs.Interface.{element_of, interface_of, sort_of};
+ghost use Rattle.xf_def_syntax.specs.Ordered.{child_in, is_parent, numbered_from};
+ghost use Rattle.xf_def_xpath.specs.Meaning.{meaning};
+ghost use Rattle.xf_def_ui.specs.Elements.{element_at, is_container, is_control};
+ghost use Rattle.xf_def_ui.specs.Interface.{element_of, interface_of, sort_of};
 ghost use Rattle.xf_controls.specs.Below as below;
 ghost use Rattle.xf_controls.specs.Handed.{printed_in};
 ghost use Rattle.xf_controls.specs.Plain.{are_children, is_plain, is_plain_sort, is_top, stands_plainly};
 
-use xf_ast::{Control, Element, Expr, Form, Kind, Part};
-use xf_elements::element_in;
+use xf_def_syntax::{Control, Element, Expr, Form, Kind, Part};
+use xf_form_elements::element_in;
 
 /// Whether each control and container of the form has one copy: no element of it is a repeat, a switch, a case or a select. It also sees
 /// that each element stands where its parent says.

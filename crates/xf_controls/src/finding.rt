@@ -2,8 +2,8 @@
 
 ghost use Rattle.std.specs.Prelude.{◌≡◌, true, length, slice_get, IfOk, OnOk};
 ghost use Rattle.xf_eval.specs.Live.{AroundStands};
-ghost use Rattle.xf_ui.specs.Interface.{interface_of};
-ghost use Rattle.xf_bound_laws.specs.Fixed.{AllFixed};
+ghost use Rattle.xf_def_ui.specs.Interface.{interface_of};
+ghost use Rattle.xf_law_bindings.specs.Fixed.{AllFixed};
 ghost use Rattle.xf_controls.specs.Known.{AreHeld, AreNoted, IsNoted};
 ghost use Rattle.xf_controls.specs.Plain.{is_plain};
 ghost use Rattle.xf_controls.specs.Surrounded.{IsQuiet, around_in};
@@ -13,13 +13,13 @@ use crate::fixed::is_fixed;
 use crate::known::{Known, KnownList};
 use crate::walk::controls;
 use std::alloc::{AllocError, Global};
-use xf_ast::Form;
 use xf_base::Items;
-use xf_doc::NodeId;
-use xf_elements::chain;
+use xf_def_forest::NodeId;
+use xf_def_syntax::Form;
+use xf_def_ui::{Marks, NodeMarks};
 use xf_eval::{Around, EvalFault};
+use xf_form_elements::chain;
 use xf_tree::Forest;
-use xf_ui::{Marks, NodeMarks};
 
 /// The nodes that the controls and containers of a plain form bind, of those that bind by where nodes stand alone. They are the same over all
 /// data that differ in texts from these. An `Err` as of `controls`.
@@ -43,7 +43,7 @@ pub fn known_nodes<A: Around>(
 struct Unmarked {}
 
 impl NodeMarks for Unmarked {
-    ghost use Rattle.xf_ui.specs.Copies.{no_marks};
+    ghost use Rattle.xf_def_ui.specs.Copies.{no_marks};
 
     ghost marks_of = { λ u n. no_marks };
 

@@ -1,17 +1,17 @@
 //! What names nodes by where they stand alone, and so selects the same nodes whatever texts these have.
 
 ghost use Rattle.std.specs.Prelude.{◌≡◌, ◌&&◌, ◌||◌, true};
-ghost use Rattle.xf_lang.specs.AskedSteps.{goes_up, is_kind, meets_texts};
-ghost use Rattle.xf_lang.specs.Exact.{is_sibling};
-ghost use Rattle.xf_model.specs.Pertinent.{AllOf};
-ghost use Rattle.xf_ui.specs.Elements.{element_at};
-ghost use Rattle.xf_ui.specs.Interface.{interface_of};
-ghost use Rattle.xf_elements.specs.Bound.{seen_bound};
-ghost use Rattle.xf_bound_laws.specs.Fixed.{AllFixed, IsFixed, IsPlace};
+ghost use Rattle.xf_def_xpath.specs.AskedSteps.{goes_up, is_kind, meets_texts};
+ghost use Rattle.xf_def_xpath.specs.Exact.{is_sibling};
+ghost use Rattle.xf_def_model.specs.Pertinent.{AllOf};
+ghost use Rattle.xf_def_ui.specs.Elements.{element_at};
+ghost use Rattle.xf_def_ui.specs.Interface.{interface_of};
+ghost use Rattle.xf_form_elements.specs.Bound.{seen_bound};
+ghost use Rattle.xf_law_bindings.specs.Fixed.{AllFixed, IsFixed, IsPlace};
 ghost use Rattle.xf_controls.specs.Fixed.{IsPlaceStep, IsWritten};
 
-use xf_ast::{Expr, Form, Step, Test};
-use xf_elements::{Bound, binding_of, element_in};
+use xf_def_syntax::{Expr, Form, Step, Test};
+use xf_form_elements::{Bound, binding_of, element_in};
 use xf_name::Axis;
 
 /// The code of the function `instance`.

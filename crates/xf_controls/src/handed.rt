@@ -1,21 +1,21 @@
 //! What the elements around an element give it.
 
 ghost use Rattle.std.specs.Prelude.{◌≡◌, List, option_map};
-ghost use Rattle.xf_doc.specs.declared.content.Node.{Node};
+ghost use Rattle.xf_def_forest.specs.declared.content.Node.{Node};
 ghost use Rattle.xf_eval.specs.Live.{AroundStands};
-ghost use Rattle.xf_ui.specs.Around.{alone};
-ghost use Rattle.xf_ui.specs.Context as context;
-ghost use Rattle.xf_ui.specs.Interface.{sort_of};
-ghost use Rattle.xf_elements.specs.Bound.{seen_bound};
+ghost use Rattle.xf_def_ui.specs.Around.{alone};
+ghost use Rattle.xf_def_ui.specs.Context as context;
+ghost use Rattle.xf_def_ui.specs.Interface.{sort_of};
+ghost use Rattle.xf_form_elements.specs.Bound.{seen_bound};
 ghost use Rattle.xf_controls.specs.Handed.{first_handed, place_below, place_for};
 ghost use Rattle.xf_controls.specs.declared.handed.Place.TheVariants.{Free};
 ghost use Rattle.xf_controls.specs.Seen.{IsThere, node_of_place, number, seen_handed, seen_place};
 ghost use Rattle.xf_controls.specs.Surrounded.{around_in};
 
-use xf_ast::{Kind, Tables};
-use xf_doc::NodeId;
-use xf_elements::Bound;
+use xf_def_forest::NodeId;
+use xf_def_syntax::{Kind, Tables};
 use xf_eval::Around;
+use xf_form_elements::Bound;
 use xf_tree::Forest;
 
 /// The node that the elements around give.

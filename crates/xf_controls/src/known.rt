@@ -4,7 +4,7 @@ ghost use Rattle.std.specs.Prelude.{◌≡◌, None, Some};
 ghost use Rattle.xf_controls.specs.Known as spec;
 
 use xf_base::Items;
-use xf_doc::NodeId;
+use xf_def_forest::NodeId;
 
 /// What is known of the node that an element binds.
 #[derive(Clone, Copy, Debug)]

@@ -1,12 +1,12 @@
 //! What the copies of controls are made over, and what an element binds there.
 
 ghost use Rattle.std.specs.Prelude.{◌≡◌, ◌&&◌, IfOk, if◌then◌else◌, option_map};
-ghost use Rattle.xf_plain_values.specs.Bounded.{GivesBounded};
+ghost use Rattle.xf_def_values.specs.Bounded.{GivesBounded};
 ghost use Rattle.xf_eval.specs.Live.{AroundStands};
-ghost use Rattle.xf_ui.specs.Copies as copies;
-ghost use Rattle.xf_ui.specs.Elements as elements;
-ghost use Rattle.xf_ui.specs.Interface.{element_of, interface_of, sort_of};
-ghost use Rattle.xf_elements.specs.Bound.{seen_bound};
+ghost use Rattle.xf_def_ui.specs.Copies as copies;
+ghost use Rattle.xf_def_ui.specs.Elements as elements;
+ghost use Rattle.xf_def_ui.specs.Interface.{element_of, interface_of, sort_of};
+ghost use Rattle.xf_form_elements.specs.Bound.{seen_bound};
 ghost use Rattle.xf_controls.specs.Found.{IsFound};
 ghost use Rattle.xf_controls.specs.Handed as down;
 ghost use Rattle.xf_controls.specs.Known as known;
@@ -19,12 +19,12 @@ use crate::element::{is_container, is_control};
 use crate::handed::{Handed, focus_in, place_below, place_for};
 use crate::known::{KnownList, known_for};
 use std::alloc::Global;
-use xf_ast::{Element, Form};
-use xf_doc::NodeId;
-use xf_elements::{Bound, binding_of, scope_of};
+use xf_def_forest::NodeId;
+use xf_def_syntax::{Element, Form};
+use xf_def_ui::{Marks, NodeMarks};
 use xf_eval::{Around, EvalFault};
+use xf_form_elements::{Bound, binding_of, scope_of};
 use xf_tree::Forest;
-use xf_ui::{Marks, NodeMarks};
 
 /// A form over its data.
 #[derive(Clone, Copy)]

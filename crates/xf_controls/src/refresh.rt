@@ -1,7 +1,7 @@
 //! What a refresh tells (XForms 1.1, sections 4.3.4 and 4.4): where the copies of two lists differ.
 
 ghost use Rattle.std.specs.Prelude.{◌≡◌, ◌++◌, [], ◌∷◌, IfOk, OnOk, find, map, option_map};
-ghost use Rattle.xf_ui.specs.Notifications as told;
+ghost use Rattle.xf_def_ui.specs.Notifications as told;
 ghost use Rattle.xf_controls.specs.Before.{Knows};
 ghost use Rattle.xf_controls.specs.Seen.{seen_copy, seen_notification};
 
@@ -9,7 +9,7 @@ use crate::before::{Before, before_of, first_place};
 use crate::copy::{ControlCopy, ControlList, same_rows};
 use std::alloc::{AllocError, Global};
 use xf_base::Items;
-use xf_doc::NodeList;
+use xf_def_forest::NodeList;
 use xf_eval::append;
 use xf_name::Word;
 

@@ -1,8 +1,8 @@
 //! The copies of controls from one refresh to the next, and as they were at the end of the last event.
 
 ghost use Rattle.std.specs.Prelude.{◌≡◌, ◌<◌, ◌++◌, [], true, not, length, map, option_map, IfOk, OnOk};
-ghost use Rattle.xf_plain_values.specs.Bounded.{GivesBounded};
-ghost use Rattle.xf_ui.specs.Notifications as told;
+ghost use Rattle.xf_def_values.specs.Bounded.{GivesBounded};
+ghost use Rattle.xf_def_ui.specs.Notifications as told;
 ghost use Rattle.xf_controls.specs.Former as values;
 ghost use Rattle.xf_controls.specs.Former.{node_at, value_at, with_value_at};
 ghost use Rattle.xf_controls.specs.Renewed as spec;

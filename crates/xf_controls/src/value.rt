@@ -3,15 +3,15 @@
 ghost use Rattle.std.specs.Prelude.{◌≡◌, ◌≤◌, None, Some, length, option_map};
 ghost use Rattle.std.specs.Bool.{OnTrue};
 ghost use Rattle.xf_base.specs.Limits.{string_limit};
-ghost use Rattle.xf_plain_values.specs.Bounded.{GivesBounded};
-ghost use Rattle.xf_doc.specs.Forest.{IsLive};
-ghost use Rattle.xf_doc.specs.Visit.{visits};
-ghost use Rattle.xf_lang.specs.Meaning.{meaning};
+ghost use Rattle.xf_def_values.specs.Bounded.{GivesBounded};
+ghost use Rattle.xf_def_forest.specs.Forest.{IsLive};
+ghost use Rattle.xf_def_forest.specs.Visit.{visits};
+ghost use Rattle.xf_def_xpath.specs.Meaning.{meaning};
 ghost use Rattle.xf_eval.specs.Live.{AroundStands};
-ghost use Rattle.xf_ui.specs.Around.{alone};
-ghost use Rattle.xf_ui.specs.Copies as copies;
-ghost use Rattle.xf_ui.specs.Interface.{sort_of};
-ghost use Rattle.xf_elements.specs.Bound.{seen_bound};
+ghost use Rattle.xf_def_ui.specs.Around.{alone};
+ghost use Rattle.xf_def_ui.specs.Copies as copies;
+ghost use Rattle.xf_def_ui.specs.Interface.{sort_of};
+ghost use Rattle.xf_form_elements.specs.Bound.{seen_bound};
 ghost use Rattle.xf_controls.specs.Seen.{IsThere, number};
 ghost use Rattle.xf_controls.specs.Renewed.{value_over};
 ghost use Rattle.xf_controls.specs.Surrounded.{around_in, printed_from, string_in};
@@ -19,11 +19,11 @@ ghost use Rattle.xf_controls.specs.Surrounded.{around_in, printed_from, string_i
 use crate::binding::context_at;
 use crate::element::printed_in;
 use std::alloc::Global;
-use xf_ast::{Expr, Kind, Tables};
 use xf_base::limits::STRING_LIMIT;
-use xf_doc::NodeId;
-use xf_elements::Bound;
+use xf_def_forest::NodeId;
+use xf_def_syntax::{Expr, Kind, Tables};
 use xf_eval::{Around, EvalFault, text_of, value_at};
+use xf_form_elements::Bound;
 use xf_name::Word;
 use xf_tree::Forest;
 

@@ -2,11 +2,11 @@
 //! to what stands in it.
 
 ghost use Rattle.std.specs.Prelude.{◌≡◌, ◌++◌, ℕ, List, true, map, option_map};
-ghost use Rattle.xf_plain_values.specs.Bounded.{GivesBounded};
+ghost use Rattle.xf_def_values.specs.Bounded.{GivesBounded};
 ghost use Rattle.xf_eval.specs.Live.{AroundStands};
-ghost use Rattle.xf_ui.specs.Copies as copies;
-ghost use Rattle.xf_ui.specs.Index.{Index};
-ghost use Rattle.xf_ui.specs.Interface.{element_of, interface_of, sort_of};
+ghost use Rattle.xf_def_ui.specs.Copies as copies;
+ghost use Rattle.xf_def_ui.specs.Index.{Index};
+ghost use Rattle.xf_def_ui.specs.Interface.{element_of, interface_of, sort_of};
 ghost use Rattle.xf_controls.specs.Below as below;
 ghost use Rattle.xf_controls.specs.Below.{copies_from, if_control};
 ghost use Rattle.xf_controls.specs.Found.{IsFound};
@@ -15,7 +15,7 @@ ghost use Rattle.xf_controls.specs.Known.{AreKnown, IsReached};
 ghost use Rattle.xf_controls.specs.Plain.{is_plain};
 ghost use Rattle.xf_controls.specs.Seen.{IsThere, node_of_place, number, seen_copy, seen_handed};
 ghost use Rattle.xf_controls.specs.Surrounded.{IsQuiet, around_in};
-ghost use Rattle.xf_ui.specs.Elements.{is_control};
+ghost use Rattle.xf_def_ui.specs.Elements.{is_control};
 
 use crate::binding::is_bound;
 use crate::copy::{ControlCopy, ControlList};
@@ -25,13 +25,13 @@ use crate::known::KnownList;
 use crate::over::{Found, Over, both, found_at, handed_by};
 use crate::value::value_of;
 use std::alloc::Global;
-use xf_ast::{Element, Form, Part};
 use xf_base::Items;
-use xf_doc::NodeList;
-use xf_elements::{binding_of, element_in, scope_of};
+use xf_def_forest::NodeList;
+use xf_def_syntax::{Element, Form, Part};
+use xf_def_ui::NodeMarks;
 use xf_eval::{Around, EvalFault};
+use xf_form_elements::{binding_of, element_in, scope_of};
 use xf_tree::Forest;
-use xf_ui::NodeMarks;
 
 /// The copies of the controls and containers of a plain form, in document order. What is known of the nodes that they bind is not asked. An `Err` is want of memory or, as in `evaluate`, a string
 /// that is too long.

@@ -1,27 +1,27 @@
 -- The construction of a form, step by step.
 use Rattle.std.proofs.Common.{◌≡◌, List, [], length, Option, Some, None, Result, Ok, Err, refl, ap, sym, ◌∙◌, subst}
 use Rattle.std.specs.Prelude.{IfErr}
-use Rattle.xf_ui.specs.Cases.{first_cases}
-use Rattle.xf_ui.specs.Copies.{Copy}
-use Rattle.xf_ui.specs.Index.{Index, Stop, brought_up}
-use Rattle.xf_ui.specs.Started.{started}
-use Rattle.xf_form_machine.specs.State.{State}
-use Rattle.xf_form_machine.specs.Refusal.{Refused, or_long}
-use Rattle.xf_form_machine.specs.Flow.{Run, ◌>>=◌}
-use Rattle.xf_form_machine.specs.Primitives.{with_indexes}
-use Rattle.xf_form_machine.specs.Surround.{interface, quiet}
-use Rattle.xf_form_machine.specs.Construct.{construct, build_model, first_shown, plant_document, unbuilt}
-use Rattle.xf_form_machine.specs.Cycles.{counted_from}
-use Rattle.xf_form_machine.specs.Update.{reindex, shown, with_brought}
-use Rattle.xf_loader.specs.declared.loaded.Loaded.{Loaded}
-use Rattle.xf_machine_laws.proofs.QuietKeeps.{build-keeps, document-keeps, keeps-turn}
-use Rattle.xf_work.specs.declared.fault.WorkFault.{WorkFault}
-use Rattle.xf_work.specs.declared.fault.WorkFault.TheVariants as fault
-use Rattle.xf_processor.specs.Formed.{program_in, profile, IsFromBytes}
-use Rattle.xf_work.specs.Does.{Does, Twin}
-use Rattle.xf_work.specs.Parts.{IsLoaded}
-use Rattle.xf_work.specs.Planting.{IsPlanted, planted_by}
-use Rattle.xf_work.specs.Standing.{Standing, state_of}
+use Rattle.xf_def_ui.specs.Cases.{first_cases}
+use Rattle.xf_def_ui.specs.Copies.{Copy}
+use Rattle.xf_def_ui.specs.Index.{Index, Stop, brought_up}
+use Rattle.xf_def_ui.specs.Started.{started}
+use Rattle.xf_def_machine.specs.State.{State}
+use Rattle.xf_def_machine.specs.Refusal.{Refused, or_long}
+use Rattle.xf_def_machine.specs.Flow.{Run, ◌>>=◌}
+use Rattle.xf_def_machine.specs.Primitives.{with_indexes}
+use Rattle.xf_def_machine.specs.Surround.{interface, quiet}
+use Rattle.xf_def_machine.specs.Construct.{construct, build_model, first_shown, plant_document, unbuilt}
+use Rattle.xf_def_machine.specs.Cycles.{counted_from}
+use Rattle.xf_def_machine.specs.Update.{reindex, shown, with_brought}
+use Rattle.xf_form.specs.declared.loaded.Loaded.{Loaded}
+use Rattle.xf_law_machine.proofs.BehavioursLemmas.QuietKeeps.{build-keeps, document-keeps, keeps-turn}
+use Rattle.xf_engine_state.specs.declared.fault.WorkFault.{WorkFault}
+use Rattle.xf_engine_state.specs.declared.fault.WorkFault.TheVariants as fault
+use Rattle.xf_def_form.specs.Formed.{program_in, profile, IsFromBytes}
+use Rattle.xf_engine_state.specs.Does.{Does, Twin}
+use Rattle.xf_engine_state.specs.Parts.{IsLoaded}
+use Rattle.xf_engine_state.specs.Planting.{IsPlanted, planted_by}
+use Rattle.xf_engine_state.specs.Standing.{Standing, state_of}
 use Rattle.xf_engine.specs.Constructed.{Builds, all_built, built_and_shown, rows_started}
 use Rattle.xf_engine.proofs.Flow.{Means, means-then, same-does, same-means, then-next}
 use Rattle.xf_engine.proofs.FormFaults.{construct-fault}

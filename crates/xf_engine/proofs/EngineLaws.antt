@@ -6,26 +6,26 @@ use Rattle.xf_store.specs.declared.call.StoreCall.{StoreCall}
 use Rattle.xf_store.specs.Replay.{Covers}
 use Rattle.xf_store.specs.Called.{Called, Told}
 use Rattle.xf_line.specs.declared.event.Event.{Event}
-use Rattle.xf_form_machine.specs.declared.refusal.Refusal.{Refusal}
-use Rattle.xf_form_machine.specs.Flow.{◌>>=◌}
-use Rattle.xf_form_machine.specs.Refusal.{Refused}
-use Rattle.xf_form_machine.specs.Replies.{answers_in, note_lines, ok_text}
-use Rattle.xf_form_machine.specs.State.{State}
-use Rattle.xf_form_machine.specs.Start.{readied}
-use Rattle.xf_form_machine.specs.Step.{Outcome, Posted, accepted, outcome, posted, at_end, fresh, one_more, step, changed_by}
-use Rattle.xf_processor.specs.Formed.{profile}
+use Rattle.xf_def_machine.specs.declared.refusal.Refusal.{Refusal}
+use Rattle.xf_def_machine.specs.Flow.{◌>>=◌}
+use Rattle.xf_def_machine.specs.Refusal.{Refused}
+use Rattle.xf_def_machine.specs.Replies.{answers_in, note_lines, ok_text}
+use Rattle.xf_def_machine.specs.State.{State}
+use Rattle.xf_def_machine.specs.Start.{readied}
+use Rattle.xf_def_machine.specs.Step.{Outcome, Posted, accepted, outcome, posted, at_end, fresh, one_more, step, changed_by}
+use Rattle.xf_def_form.specs.Formed.{profile}
 use Rattle.xf_actions.specs.Performs.{Refuses}
-use Rattle.xf_work.specs.declared.fault.WorkFault.{WorkFault}
-use Rattle.xf_work.specs.declared.fault.WorkFault.TheVariants as of_work
-use Rattle.xf_work.specs.Does.{Stage}
-use Rattle.xf_work.specs.Standing.{Standing}
-use Rattle.xf_work.specs.Standing as work
-use Rattle.xf_world.specs.declared.fault.EventFault.{EventFault}
-use Rattle.xf_world.specs.declared.fault.EventFault.TheVariants as fault
-use Rattle.xf_world.specs.declared.form_world.FormWorld.{FormWorld}
-use Rattle.xf_world.specs.Fault.{fault_of_work, means}
-use Rattle.xf_world.specs.Outside.{IsKept, standing_of}
-use Rattle.xf_world.specs.State.{kept_of, state_of}
+use Rattle.xf_engine_state.specs.declared.fault.WorkFault.{WorkFault}
+use Rattle.xf_engine_state.specs.declared.fault.WorkFault.TheVariants as of_work
+use Rattle.xf_engine_state.specs.Does.{Stage}
+use Rattle.xf_engine_state.specs.Standing.{Standing}
+use Rattle.xf_engine_state.specs.Standing as work
+use Rattle.xf_engine_world.specs.declared.fault.EventFault.{EventFault}
+use Rattle.xf_engine_world.specs.declared.fault.EventFault.TheVariants as fault
+use Rattle.xf_engine_world.specs.declared.form_world.FormWorld.{FormWorld}
+use Rattle.xf_engine_world.specs.Fault.{fault_of_work, means}
+use Rattle.xf_engine_world.specs.Outside.{IsKept, standing_of}
+use Rattle.xf_engine_world.specs.State.{kept_of, state_of}
 use Rattle.xf_engine.specs.Handled.{Handles, HandlesOver, IsAtEnd, IsHandled, IsStopped}
 use Rattle.xf_engine.specs.Constructed.{Builds}
 use Rattle.xf_engine.specs.Stepped.{IsAccepted, IsConstructed, IsRefusedAfter, Starts, Steps, started}

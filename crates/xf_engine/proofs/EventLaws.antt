@@ -3,21 +3,21 @@ use Rattle.std.proofs.Common.{codes, ℕ, ◌≡◌, Bool, true, false, List, []
 use Rattle.xf_line.specs.declared.event.Event.TheVariants.{Set, Activate, Index, Send, Dispatch, Reset}
 use Rattle.xf_store.specs.declared.answers.Answer.{Answer}
 use Rattle.xf_store.specs.declared.call.StoreCall.{StoreCall}
-use Rattle.xf_ui.specs.Copies.{Copy}
-use Rattle.xf_ui.specs.Elements.{element_at}
-use Rattle.xf_ui.specs.Index.{rows_now}
-use Rattle.xf_form_machine.specs.Choose.{named_copy, set_index}
-use Rattle.xf_form_machine.specs.Events.{Fired, fired, plainly}
-use Rattle.xf_form_machine.specs.State.{State}
-use Rattle.xf_form_machine.specs.Refusal.{Refusal, Refused, bad_index, disabled, readonly, not_an_item, or_long}
-use Rattle.xf_form_machine.specs.Flow.{Run, ◌>>=◌, where_some}
-use Rattle.xf_form_machine.specs.SetValue.{unless_parent}
-use Rattle.xf_form_machine.specs.Surround.{interface, quiet}
-use Rattle.xf_form_machine.specs.Targets.{copy_named, element_named, model_around, or_no_target, take_rows, takes_text, unless}
-use Rattle.xf_form_machine.specs.Step.{activate, changed_by, index, is_row, model_named, set, set_bound, settle, tell, to_element, try_set}
+use Rattle.xf_def_ui.specs.Copies.{Copy}
+use Rattle.xf_def_ui.specs.Elements.{element_at}
+use Rattle.xf_def_ui.specs.Index.{rows_now}
+use Rattle.xf_def_machine.specs.Choose.{named_copy, set_index}
+use Rattle.xf_def_machine.specs.Events.{Fired, fired, plainly}
+use Rattle.xf_def_machine.specs.State.{State}
+use Rattle.xf_def_machine.specs.Refusal.{Refusal, Refused, bad_index, disabled, readonly, not_an_item, or_long}
+use Rattle.xf_def_machine.specs.Flow.{Run, ◌>>=◌, where_some}
+use Rattle.xf_def_machine.specs.SetValue.{unless_parent}
+use Rattle.xf_def_machine.specs.Surround.{interface, quiet}
+use Rattle.xf_def_machine.specs.Targets.{copy_named, element_named, model_around, or_no_target, take_rows, takes_text, unless}
+use Rattle.xf_def_machine.specs.Step.{activate, changed_by, index, is_row, model_named, set, set_bound, settle, tell, to_element, try_set}
 use Rattle.xf_actions.specs.Performs.{Refuses}
 use Rattle.xf_actions.proofs.Flow.{refuses-any, refuses-then, same-refuses}
-use Rattle.xf_processor.specs.Formed.{profile}
+use Rattle.xf_def_form.specs.Formed.{profile}
 use Rattle.xf_engine.specs.declared.naming.Wanted.{Wanted}
 use Rattle.xf_engine.specs.declared.naming.Wanted.TheVariants.{Entry, Trigger, Repeat, Submission, Any}
 use Rattle.xf_engine.specs.Naming.{wanted_in}

@@ -1,14 +1,14 @@
 -- How one change follows another, and what a refusal of the first means for both.
 use Rattle.std.proofs.Common.{ℕ, zero, suc, ◌≡◌, ◌+◌, ◌-◌, ◌<◌, Result, Ok, Err, refl, ap, sym, ◌∙◌, arith, subst}
-use Rattle.xf_form_machine.specs.State.{State}
-use Rattle.xf_form_machine.specs.Refusal.{Refused}
-use Rattle.xf_form_machine.specs.Flow.{Run, ◌>>=◌, in_turn}
-use Rattle.xf_form_machine.specs.Cycles.{counted_from}
-use Rattle.xf_form_machine.specs.declared.refusal.Refusal.{Refusal}
-use Rattle.xf_work.specs.declared.fault.WorkFault.{WorkFault}
-use Rattle.xf_work.specs.declared.fault.WorkFault.TheVariants as fault
-use Rattle.xf_work.specs.Standing.{Standing}
-use Rattle.xf_work.specs.Does.{IsRefused, Does}
+use Rattle.xf_def_machine.specs.State.{State}
+use Rattle.xf_def_machine.specs.Refusal.{Refused}
+use Rattle.xf_def_machine.specs.Flow.{Run, ◌>>=◌, in_turn}
+use Rattle.xf_def_machine.specs.Cycles.{counted_from}
+use Rattle.xf_def_machine.specs.declared.refusal.Refusal.{Refusal}
+use Rattle.xf_engine_state.specs.declared.fault.WorkFault.{WorkFault}
+use Rattle.xf_engine_state.specs.declared.fault.WorkFault.TheVariants as fault
+use Rattle.xf_engine_state.specs.Standing.{Standing}
+use Rattle.xf_engine_state.specs.Does.{IsRefused, Does}
 
 -- what a fault means of what the machine gives
 abbrev pub Means : {X : Type 0} → WorkFault → Result X Refused → Type 0

@@ -1,36 +1,36 @@
 -- For which reasons a construction is refused: binds, or limits.
 use Rattle.std.proofs.Common.{ℕ, ◌≡◌, ◌+◌, nat_lt, Bool, true, false, List, [], ◌∷◌, length, Option, Some, None, Result, Ok, Err, refl, ap, sym, ◌∙◌, subst}
-use Rattle.xf_doc.specs.declared.content.Content.{Content}
-use Rattle.xf_doc.specs.declared.fault.TreeFault.{TreeFault}
-use Rattle.xf_doc.specs.Forest.{Forest}
-use Rattle.xf_doc.specs.Planted.{with_tree}
-use Rattle.xf_doc.specs.Shape.{shape_of}
-use Rattle.xf_model.specs.Applied.{Entry, Exception, twice, on_parent, applied}
-use Rattle.xf_model.specs.Circular.{Reader}
-use Rattle.xf_model.specs.Entries.{edge_count}
-use Rattle.xf_ui.specs.Cases.{first_cases}
-use Rattle.xf_ui.specs.Copies.{Copy, copies, copy_count}
-use Rattle.xf_ui.specs.Index.{Index, Stop, brought_up}
-use Rattle.xf_ui.specs.Started.{started}
-use Rattle.xf_form_machine.specs.declared.limit.LimitWord.{LimitWord}
-use Rattle.xf_form_machine.specs.declared.limit.LimitWord.TheVariants.{Controls, Edges}
-use Rattle.xf_form_machine.specs.Behave.{asked_by_all, rebuilt_with, unless_cycle, no_cycle, by_applied, rebuild, recalculate, revalidate}
-use Rattle.xf_form_machine.specs.Construct.{plant_document, rooted, build_model, first_shown, start_indexes, unbuilt, construct}
-use Rattle.xf_form_machine.specs.Cycles.{counted_from}
-use Rattle.xf_form_machine.specs.Flow.{Run, ◌>>=◌, in_turn}
-use Rattle.xf_form_machine.specs.Primitives.{grown, in_model, over_made, with_indexes}
-use Rattle.xf_form_machine.specs.Profile.{Profile}
-use Rattle.xf_form_machine.specs.Program.{Program}
-use Rattle.xf_form_machine.specs.Properties.{marks_in}
-use Rattle.xf_form_machine.specs.Refusal as machine
-use Rattle.xf_form_machine.specs.Refusal.{Refused, unless_passed, if_over, or_long}
-use Rattle.xf_form_machine.specs.State.{State}
-use Rattle.xf_form_machine.specs.Surround.{interface, quiet, bind_scope}
-use Rattle.xf_form_machine.specs.Update.{reindex, shown, with_brought}
-use Rattle.xf_form_machine.specs.declared.refusal.Refusal.{Refusal}
-use Rattle.xf_form_machine.specs.declared.refusal.Refusal.TheVariants.{NoSuchTarget, Disabled, ReadOnly, NotAnItem, BadIndex, PropertyTwice, CalculateOnParent, Binding, Circular, Limit, Budget, Depth, Sends}
-use Rattle.xf_form_machine.specs.Told.{Tells}
-use Rattle.xf_work.specs.Does.{IsRefused}
+use Rattle.xf_def_forest.specs.declared.content.Content.{Content}
+use Rattle.xf_def_forest.specs.declared.fault.TreeFault.{TreeFault}
+use Rattle.xf_def_forest.specs.Forest.{Forest}
+use Rattle.xf_def_forest.specs.Planted.{with_tree}
+use Rattle.xf_def_forest.specs.Shape.{shape_of}
+use Rattle.xf_def_model.specs.Applied.{Entry, Exception, twice, on_parent, applied}
+use Rattle.xf_def_model.specs.Circular.{Reader}
+use Rattle.xf_def_model.specs.Entries.{edge_count}
+use Rattle.xf_def_ui.specs.Cases.{first_cases}
+use Rattle.xf_def_ui.specs.Copies.{Copy, copies, copy_count}
+use Rattle.xf_def_ui.specs.Index.{Index, Stop, brought_up}
+use Rattle.xf_def_ui.specs.Started.{started}
+use Rattle.xf_def_machine.specs.declared.limit.LimitWord.{LimitWord}
+use Rattle.xf_def_machine.specs.declared.limit.LimitWord.TheVariants.{Controls, Edges}
+use Rattle.xf_def_machine.specs.Behave.{asked_by_all, rebuilt_with, unless_cycle, no_cycle, by_applied, rebuild, recalculate, revalidate}
+use Rattle.xf_def_machine.specs.Construct.{plant_document, rooted, build_model, first_shown, start_indexes, unbuilt, construct}
+use Rattle.xf_def_machine.specs.Cycles.{counted_from}
+use Rattle.xf_def_machine.specs.Flow.{Run, ◌>>=◌, in_turn}
+use Rattle.xf_def_machine.specs.Primitives.{grown, in_model, over_made, with_indexes}
+use Rattle.xf_def_machine.specs.Profile.{Profile}
+use Rattle.xf_def_machine.specs.Program.{Program}
+use Rattle.xf_def_machine.specs.Properties.{marks_in}
+use Rattle.xf_def_machine.specs.Refusal as machine
+use Rattle.xf_def_machine.specs.Refusal.{Refused, unless_passed, if_over, or_long}
+use Rattle.xf_def_machine.specs.State.{State}
+use Rattle.xf_def_machine.specs.Surround.{interface, quiet, bind_scope}
+use Rattle.xf_def_machine.specs.Update.{reindex, shown, with_brought}
+use Rattle.xf_def_machine.specs.declared.refusal.Refusal.{Refusal}
+use Rattle.xf_def_machine.specs.declared.refusal.Refusal.TheVariants.{NoSuchTarget, Disabled, ReadOnly, NotAnItem, BadIndex, PropertyTwice, CalculateOnParent, Binding, Circular, Limit, Budget, Depth, Sends}
+use Rattle.xf_def_machine.specs.Told.{Tells}
+use Rattle.xf_engine_state.specs.Does.{IsRefused}
 use Rattle.xf_engine.specs.Constructed.{all_built, built_and_shown, rows_started}
 use Rattle.xf_engine.specs.Stepped.{is_of_form}
 

@@ -4,24 +4,24 @@ use Rattle.std.specs.Prelude.{find, option_map, bytes_eq, if◌then◌else◌}
 use Rattle.std.proofs.lemmas.Bool.{eqb-true}
 use Rattle.std.proofs.lemmas.List.{at_drop_more}
 use Rattle.std.proofs.Math.ListN.{get_or-map}
-use Rattle.xf_ast.specs.declared.element.Element.{Element}
-use Rattle.xf_ast.specs.declared.form.Form.{Form}
-use Rattle.xf_ast.specs.declared.form.Tables.{Tables}
-use Rattle.xf_ast.specs.Ordered.{numbered_from}
-use Rattle.xf_ui.specs.Interface as ui
-use Rattle.xf_ui.specs.Interface.{Interface, element_of, interface_of, sort_of}
-use Rattle.xf_ui.specs.Elements.{element_at, is_repeat_sort, no_element}
-use Rattle.xf_form_machine.specs.Events.{model_element}
-use Rattle.xf_form_machine.specs.Program.{Role, other}
-use Rattle.xf_form_machine.specs.Refusal.{Refused, no_target}
-use Rattle.xf_form_machine.specs.State.{State}
-use Rattle.xf_form_machine.specs.Step.{model_named}
-use Rattle.xf_form_machine.specs.Tables.{role_of}
-use Rattle.xf_form_machine.specs.Targets.{by_role, element_named, is_entry, is_model, is_repeat_in, is_some_text, is_submission, is_trigger, or_no_target}
+use Rattle.xf_def_syntax.specs.declared.element.Element.{Element}
+use Rattle.xf_def_syntax.specs.declared.form.Form.{Form}
+use Rattle.xf_def_syntax.specs.declared.form.Tables.{Tables}
+use Rattle.xf_def_syntax.specs.Ordered.{numbered_from}
+use Rattle.xf_def_ui.specs.Interface as ui
+use Rattle.xf_def_ui.specs.Interface.{Interface, element_of, interface_of, sort_of}
+use Rattle.xf_def_ui.specs.Elements.{element_at, is_repeat_sort, no_element}
+use Rattle.xf_def_machine.specs.Events.{model_element}
+use Rattle.xf_def_machine.specs.Program.{Role, other}
+use Rattle.xf_def_machine.specs.Refusal.{Refused, no_target}
+use Rattle.xf_def_machine.specs.State.{State}
+use Rattle.xf_def_machine.specs.Step.{model_named}
+use Rattle.xf_def_machine.specs.Tables.{role_of}
+use Rattle.xf_def_machine.specs.Targets.{by_role, element_named, is_entry, is_model, is_repeat_in, is_some_text, is_submission, is_trigger, or_no_target}
 use Rattle.xf_actions.specs.Performs.{Reads, RefusedAs, Refuses}
 use Rattle.xf_actions.specs.Seen.{IsProgram}
-use Rattle.xf_world.specs.declared.fault.EventFault.{EventFault}
-use Rattle.xf_world.specs.Fault.{means}
+use Rattle.xf_engine_world.specs.declared.fault.EventFault.{EventFault}
+use Rattle.xf_engine_world.specs.Fault.{means}
 use Rattle.xf_engine.specs.declared.naming.Wanted.{Wanted}
 use Rattle.xf_engine.specs.declared.naming.Wanted.TheVariants.{Entry, Trigger, Repeat, Model, Submission, Any}
 use Rattle.xf_engine.specs.Naming.{is_named, is_wanted, named_from, wanted_in}

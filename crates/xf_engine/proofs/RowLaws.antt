@@ -2,24 +2,24 @@
 use Rattle.std.proofs.Common.{ℕ, ◌≡◌, ◌<◌, List, [], ◌∷◌, ◌++◌, ◌-◌, length, take, drop, get_or, Option, None, Result, Ok, refl, ap, sym, ◌∙◌, arith}
 use Rattle.std.proofs.lemmas.List.{length-drop, take_all}
 use Rattle.std.specs.Prelude.{slice_get, zip}
-use Rattle.xf_ast.specs.declared.form.Form.{Form}
+use Rattle.xf_def_syntax.specs.declared.form.Form.{Form}
 use Rattle.xf_store.specs.declared.call.StoreCall.{StoreCall}
-use Rattle.xf_ui.specs.Context.{scope_of}
-use Rattle.xf_ui.specs.Elements.{element_at, elements_on, path_to}
-use Rattle.xf_ui.specs.Interface as ui
-use Rattle.xf_ui.specs.Interface.{Interface, host, interface_of}
-use Rattle.xf_elements.proofs.ElementLemmas.{no-element}
-use Rattle.xf_elements.specs.Scope.{model_along, model_at}
-use Rattle.xf_form_machine.specs.Choose.{set_index}
-use Rattle.xf_form_machine.specs.Flow.{◌>>=◌, in_turn}
-use Rattle.xf_form_machine.specs.Refusal.{Refusal, Refused}
-use Rattle.xf_form_machine.specs.State.{State}
-use Rattle.xf_form_machine.specs.Surround.{interface}
-use Rattle.xf_form_machine.specs.Targets.{model_around, scope_through}
+use Rattle.xf_def_ui.specs.Context.{scope_of}
+use Rattle.xf_def_ui.specs.Elements.{element_at, elements_on, path_to}
+use Rattle.xf_def_ui.specs.Interface as ui
+use Rattle.xf_def_ui.specs.Interface.{Interface, host, interface_of}
+use Rattle.xf_form_elements.proofs.ElementLemmas.{no-element}
+use Rattle.xf_form_elements.specs.Scope.{model_along, model_at}
+use Rattle.xf_def_machine.specs.Choose.{set_index}
+use Rattle.xf_def_machine.specs.Flow.{◌>>=◌, in_turn}
+use Rattle.xf_def_machine.specs.Refusal.{Refusal, Refused}
+use Rattle.xf_def_machine.specs.State.{State}
+use Rattle.xf_def_machine.specs.Surround.{interface}
+use Rattle.xf_def_machine.specs.Targets.{model_around, scope_through}
 use Rattle.xf_actions.specs.Performs.{Refuses}
 use Rattle.xf_actions.specs.Seen.{IsProgram}
 use Rattle.xf_actions.proofs.Flow.{refuses-then, same-refuses}
-use Rattle.xf_processor.specs.Formed.{profile}
+use Rattle.xf_def_form.specs.Formed.{profile}
 use Rattle.xf_engine.specs.Tried.{row_taken}
 use Rattle.xf_engine.proofs.Flow.{then-next}
 

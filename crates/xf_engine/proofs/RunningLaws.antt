@@ -4,8 +4,8 @@ use Rattle.std.specs.Prelude.{IfOk, IsSome, IsTrue}
 use Rattle.std.specs.List.{list_all}
 use Rattle.std.proofs.lemmas.Bool.{le-leb}
 use Rattle.xf_base.specs.Limits.{answer_limit}
-use Rattle.xf_doc.specs.declared.content.Node.{Node}
-use Rattle.xf_doc.specs.Changes.{in_instances, is_detached_top}
+use Rattle.xf_def_forest.specs.declared.content.Node.{Node}
+use Rattle.xf_def_forest.specs.Changes.{in_instances, is_detached_top}
 use Rattle.xf_store.specs.declared.answers.Answer.{Answer}
 use Rattle.xf_store.specs.declared.call.StoreCall.{StoreCall}
 use Rattle.xf_store.specs.Replay.{Covers}
@@ -13,24 +13,24 @@ use Rattle.xf_store.specs.Called.{Called, Told}
 use Rattle.xf_store.specs.Replies.{is_short}
 use Rattle.xf_journal.specs.Entry.{is_within}
 use Rattle.xf_line.specs.declared.event.Event.{Event}
-use Rattle.xf_form_machine.specs.Replies.{answers_in, note_lines}
-use Rattle.xf_form_machine.specs.State.{State}
-use Rattle.xf_form_machine.specs.Start.{readied}
-use Rattle.xf_form_machine.specs.Step.{Outcome, accepted, outcome, posted, at_end, fresh, one_more, step, changed_by}
-use Rattle.xf_processor.specs.Formed.{profile}
+use Rattle.xf_def_machine.specs.Replies.{answers_in, note_lines}
+use Rattle.xf_def_machine.specs.State.{State}
+use Rattle.xf_def_machine.specs.Start.{readied}
+use Rattle.xf_def_machine.specs.Step.{Outcome, accepted, outcome, posted, at_end, fresh, one_more, step, changed_by}
+use Rattle.xf_def_form.specs.Formed.{profile}
 use Rattle.xf_actions.specs.Performs.{Refuses}
 use Rattle.xf_session.specs.declared.fault.EventFault as session
 use Rattle.xf_session.specs.declared.fault.EventFault.TheVariants as pending
 use Rattle.xf_session.specs.Processing.{IsRefusedAfter, Posts, Starts, kept_after}
-use Rattle.xf_work.specs.Does.{Stage}
-use Rattle.xf_work.specs.Standing.{Standing}
-use Rattle.xf_work.specs.Standing as work
-use Rattle.xf_world.specs.declared.fault.EventFault.{EventFault}
-use Rattle.xf_world.specs.declared.fault.EventFault.TheVariants as fault
-use Rattle.xf_world.specs.declared.form_world.FormWorld.{FormWorld}
-use Rattle.xf_world.specs.Fault.{means}
-use Rattle.xf_world.specs.Outside.{IsKept, standing_of}
-use Rattle.xf_world.specs.State.{kept_of, state_of}
+use Rattle.xf_engine_state.specs.Does.{Stage}
+use Rattle.xf_engine_state.specs.Standing.{Standing}
+use Rattle.xf_engine_state.specs.Standing as work
+use Rattle.xf_engine_world.specs.declared.fault.EventFault.{EventFault}
+use Rattle.xf_engine_world.specs.declared.fault.EventFault.TheVariants as fault
+use Rattle.xf_engine_world.specs.declared.form_world.FormWorld.{FormWorld}
+use Rattle.xf_engine_world.specs.Fault.{means}
+use Rattle.xf_engine_world.specs.Outside.{IsKept, standing_of}
+use Rattle.xf_engine_world.specs.State.{kept_of, state_of}
 use Rattle.xf_engine.specs.Handled.{HandlesOver, IsAtEnd, IsStopped}
 use Rattle.xf_engine.specs.Running.{IsAtRest, Pending, pending_in, session_fault}
 use Rattle.xf_engine.proofs.EngineLaws.{IsCovered, accepted-as, again, answers_of, back, called-anew, changed_over, ended, ends, refused-outcome, step-is}

@@ -2,14 +2,14 @@
 use Rattle.std.proofs.Common.{codes, ◌≡◌, List, Option, Result, Ok, ap, sym, ◌∙◌}
 use Rattle.xf_store.specs.declared.answers.Answer.{Answer}
 use Rattle.xf_store.specs.declared.call.StoreCall.{StoreCall}
-use Rattle.xf_form_machine.specs.Flow.{◌>>=◌}
-use Rattle.xf_form_machine.specs.Refusal.{Refusal, Refused}
-use Rattle.xf_form_machine.specs.Start.{readied, tell_models}
-use Rattle.xf_form_machine.specs.State.{State}
-use Rattle.xf_form_machine.specs.Step.{fresh}
+use Rattle.xf_def_machine.specs.Flow.{◌>>=◌}
+use Rattle.xf_def_machine.specs.Refusal.{Refusal, Refused}
+use Rattle.xf_def_machine.specs.Start.{readied, tell_models}
+use Rattle.xf_def_machine.specs.State.{State}
+use Rattle.xf_def_machine.specs.Step.{fresh}
 use Rattle.xf_actions.specs.Performs.{Refuses}
 use Rattle.xf_actions.proofs.Flow.{refuses-then, same-refuses}
-use Rattle.xf_processor.specs.Formed.{profile}
+use Rattle.xf_def_form.specs.Formed.{profile}
 
 module _ (answers : List Answer) where
   abbrev constructing : State → Result State Refused

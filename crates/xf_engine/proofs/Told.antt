@@ -1,17 +1,17 @@
 -- A refusal that is told is one that the machine gives.
 use Rattle.std.proofs.Common.{suc, ◌≡◌, Bool, true, false, List, [], ◌∷◌, Result, Ok, Err, refl, ap, sym, ◌∙◌, arith, subst, inl, inr}
 use Rattle.std.specs.Prelude.{Contains}
-use Rattle.xf_form_machine.specs.declared.limit.LimitWord.{LimitWord}
-use Rattle.xf_form_machine.specs.declared.refusal.Refusal.{Refusal}
-use Rattle.xf_form_machine.specs.declared.refusal.Refusal.TheVariants.{NoSuchTarget, Disabled, ReadOnly, NotAnItem, BadIndex, PropertyTwice, CalculateOnParent, Binding, Circular, Limit, Budget, Depth, Sends}
-use Rattle.xf_form_machine.specs.Refusal as machine
-use Rattle.xf_form_machine.specs.Refusal.{Refused}
-use Rattle.xf_form_machine.specs.Told.{Tells, told}
+use Rattle.xf_def_machine.specs.declared.limit.LimitWord.{LimitWord}
+use Rattle.xf_def_machine.specs.declared.refusal.Refusal.{Refusal}
+use Rattle.xf_def_machine.specs.declared.refusal.Refusal.TheVariants.{NoSuchTarget, Disabled, ReadOnly, NotAnItem, BadIndex, PropertyTwice, CalculateOnParent, Binding, Circular, Limit, Budget, Depth, Sends}
+use Rattle.xf_def_machine.specs.Refusal as machine
+use Rattle.xf_def_machine.specs.Refusal.{Refused}
+use Rattle.xf_def_machine.specs.Told.{Tells, told}
 use Rattle.xf_actions.specs.Performs.{Among, IsTold, RefusedAs, Refuses}
-use Rattle.xf_form_machine.specs.State.{State}
+use Rattle.xf_def_machine.specs.State.{State}
 use Rattle.xf_store.specs.declared.call.StoreCall.{StoreCall}
-use Rattle.xf_world.specs.declared.fault.EventFault.TheVariants as fault
-use Rattle.xf_world.specs.Fault.{means}
+use Rattle.xf_engine_world.specs.declared.fault.EventFault.TheVariants as fault
+use Rattle.xf_engine_world.specs.Fault.{means}
 use Rattle.xf_engine.specs.Handled.{IsStopped}
 
 among-contains : (w : LimitWord) (words : List LimitWord) → Among w words → Contains words w

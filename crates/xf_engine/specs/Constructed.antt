@@ -1,17 +1,17 @@
 -- The construction of a form, step by step.
 use Rattle.std.specs.Prelude.{◌≡◌, true, length, Result, Ok, Err}
-use Rattle.xf_form_machine.specs.Profile.{Profile}
-use Rattle.xf_form_machine.specs.State.{State}
-use Rattle.xf_form_machine.specs.Refusal.{Refused}
-use Rattle.xf_form_machine.specs.Flow.{Run, ◌>>=◌, in_turn}
-use Rattle.xf_form_machine.specs.Cycles.{counted_from}
-use Rattle.xf_ui.specs.Cases.{first_cases}
-use Rattle.xf_form_machine.specs.Construct.{build_model, first_shown, start_indexes}
-use Rattle.xf_form_machine.specs.Surround.{interface}
-use Rattle.xf_work.specs.declared.fault.WorkFault.{WorkFault}
-use Rattle.xf_work.specs.declared.fault.WorkFault.TheVariants as fault
-use Rattle.xf_work.specs.Standing.{state_of}
-use Rattle.xf_work.specs.Does.{Twin, IsRefused}
+use Rattle.xf_def_machine.specs.Profile.{Profile}
+use Rattle.xf_def_machine.specs.State.{State}
+use Rattle.xf_def_machine.specs.Refusal.{Refused}
+use Rattle.xf_def_machine.specs.Flow.{Run, ◌>>=◌, in_turn}
+use Rattle.xf_def_machine.specs.Cycles.{counted_from}
+use Rattle.xf_def_ui.specs.Cases.{first_cases}
+use Rattle.xf_def_machine.specs.Construct.{build_model, first_shown, start_indexes}
+use Rattle.xf_def_machine.specs.Surround.{interface}
+use Rattle.xf_engine_state.specs.declared.fault.WorkFault.{WorkFault}
+use Rattle.xf_engine_state.specs.declared.fault.WorkFault.TheVariants as fault
+use Rattle.xf_engine_state.specs.Standing.{state_of}
+use Rattle.xf_engine_state.specs.Does.{Twin, IsRefused}
 use Rattle.xf_engine.specs.Stepped.{is_of_form}
 
 -- the models one after the other

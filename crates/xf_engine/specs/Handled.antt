@@ -3,20 +3,20 @@ use Rattle.std.specs.Prelude.{ℕ, ◌≡◌, true, List, ◌++◌, Result, Ok, 
 use Rattle.xf_store.specs.declared.answers.Answer.{Answer}
 use Rattle.xf_store.specs.declared.call.StoreCall.{StoreCall}
 use Rattle.xf_store.specs.Replay.{Covers}
-use Rattle.xf_form_machine.specs.State.{State}
-use Rattle.xf_form_machine.specs.Refusal.{Refused}
-use Rattle.xf_form_machine.specs.declared.refusal.Refusal.{Refusal}
-use Rattle.xf_form_machine.specs.Told.{Tells}
-use Rattle.xf_form_machine.specs.Flow.{◌>>=◌}
-use Rattle.xf_form_machine.specs.Replies.{ok_text}
-use Rattle.xf_form_machine.specs.Step.{fresh, one_more, posted}
-use Rattle.xf_processor.specs.Formed.{profile}
-use Rattle.xf_work.specs.Standing as work
-use Rattle.xf_world.specs.declared.fault.EventFault.{EventFault}
-use Rattle.xf_world.specs.declared.fault.EventFault.TheVariants as fault
-use Rattle.xf_world.specs.declared.form_world.FormWorld.{FormWorld}
-use Rattle.xf_world.specs.Outside.{standing_of}
-use Rattle.xf_world.specs.State.{kept_of, state_of}
+use Rattle.xf_def_machine.specs.State.{State}
+use Rattle.xf_def_machine.specs.Refusal.{Refused}
+use Rattle.xf_def_machine.specs.declared.refusal.Refusal.{Refusal}
+use Rattle.xf_def_machine.specs.Told.{Tells}
+use Rattle.xf_def_machine.specs.Flow.{◌>>=◌}
+use Rattle.xf_def_machine.specs.Replies.{ok_text}
+use Rattle.xf_def_machine.specs.Step.{fresh, one_more, posted}
+use Rattle.xf_def_form.specs.Formed.{profile}
+use Rattle.xf_engine_state.specs.Standing as work
+use Rattle.xf_engine_world.specs.declared.fault.EventFault.{EventFault}
+use Rattle.xf_engine_world.specs.declared.fault.EventFault.TheVariants as fault
+use Rattle.xf_engine_world.specs.declared.form_world.FormWorld.{FormWorld}
+use Rattle.xf_engine_world.specs.Outside.{standing_of}
+use Rattle.xf_engine_world.specs.State.{kept_of, state_of}
 
 -- it is counted, so many evaluations count, and its lines are appended to a text
 pub record IsHandled (count : ℕ) (after : State) (old new : List ℕ) (given : Result State Refused) : Type 0 where

@@ -1,12 +1,12 @@
 -- The elements that events from outside name by their ids.
 use Rattle.std.specs.Prelude.{ℕ, suc, Bool, true, ◌&&◌, List, [], ◌∷◌, Option, Some, None, bytes_eq, if◌then◌else◌}
-use Rattle.xf_ast.specs.declared.element.Element.{Element}
-use Rattle.xf_ast.specs.declared.element.Kind.{Kind}
-use Rattle.xf_ui.specs.Elements.{is_repeat_sort}
-use Rattle.xf_ui.specs.Interface.{sort_of}
-use Rattle.xf_form_machine.specs.State.{State}
-use Rattle.xf_form_machine.specs.Tables.{role_of}
-use Rattle.xf_form_machine.specs.Targets.{by_role, is_some_text, is_entry, is_repeat_in, is_trigger, is_model, is_submission}
+use Rattle.xf_def_syntax.specs.declared.element.Element.{Element}
+use Rattle.xf_def_syntax.specs.declared.element.Kind.{Kind}
+use Rattle.xf_def_ui.specs.Elements.{is_repeat_sort}
+use Rattle.xf_def_ui.specs.Interface.{sort_of}
+use Rattle.xf_def_machine.specs.State.{State}
+use Rattle.xf_def_machine.specs.Tables.{role_of}
+use Rattle.xf_def_machine.specs.Targets.{by_role, is_some_text, is_entry, is_repeat_in, is_trigger, is_model, is_submission}
 use Rattle.xf_engine.specs.declared.naming.Wanted.{Wanted}
 use Rattle.xf_engine.specs.declared.naming.Wanted.TheVariants.{Entry, Trigger, Repeat, Model, Submission, Any}
 

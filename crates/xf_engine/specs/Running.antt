@@ -1,18 +1,18 @@
 -- A form at work of which an event may be pending, and what a session has of it.
 use Rattle.std.specs.Prelude.{◌≡◌, Bool, true, false, List, [], Option, Some, None}
-use Rattle.xf_doc.specs.Changes.{in_instances}
+use Rattle.xf_def_forest.specs.Changes.{in_instances}
 use Rattle.xf_store.specs.declared.call.StoreCall.{StoreCall}
-use Rattle.xf_form_machine.specs.Step.{at_end}
-use Rattle.xf_processor.specs.Formed.{profile}
+use Rattle.xf_def_machine.specs.Step.{at_end}
+use Rattle.xf_def_form.specs.Formed.{profile}
 use Rattle.xf_session.specs.declared.fault.EventFault as session
 use Rattle.xf_session.specs.declared.fault.EventFault.TheVariants as pending
-use Rattle.xf_work.specs.Standing.{Standing}
-use Rattle.xf_work.specs.Standing as work
-use Rattle.xf_world.specs.declared.fault.EventFault.{EventFault}
-use Rattle.xf_world.specs.declared.fault.EventFault.TheVariants.{Refused, Memory}
-use Rattle.xf_world.specs.declared.form_world.FormWorld.{FormWorld}
-use Rattle.xf_world.specs.Outside.{standing_of}
-use Rattle.xf_world.specs.State.{kept_of, state_of}
+use Rattle.xf_engine_state.specs.Standing.{Standing}
+use Rattle.xf_engine_state.specs.Standing as work
+use Rattle.xf_engine_world.specs.declared.fault.EventFault.{EventFault}
+use Rattle.xf_engine_world.specs.declared.fault.EventFault.TheVariants.{Refused, Memory}
+use Rattle.xf_engine_world.specs.declared.form_world.FormWorld.{FormWorld}
+use Rattle.xf_engine_world.specs.Outside.{standing_of}
+use Rattle.xf_engine_world.specs.State.{kept_of, state_of}
 use Rattle.xf_engine.specs.Handled.{IsAtEnd}
 
 -- at the end of an event, as the machine's at_end: its detached trees are dropped, and the next one has a whole budget

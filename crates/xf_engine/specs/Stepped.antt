@@ -4,17 +4,17 @@ use Rattle.std.specs.Prelude.{ℕ, Bool, true, false, ◌≡◌, List, [], ◌++
 use Rattle.xf_store.specs.declared.answers.Answer.{Answer}
 use Rattle.xf_store.specs.declared.call.StoreCall.{StoreCall}
 use Rattle.xf_store.specs.Called.{Called, Told}
-use Rattle.xf_form_machine.specs.State.{State}
-use Rattle.xf_form_machine.specs.Refusal as machine
-use Rattle.xf_form_machine.specs.Replies.{answers_in, note_lines, ok_text}
-use Rattle.xf_form_machine.specs.Step.{Posted, Outcome}
-use Rattle.xf_form_machine.specs.declared.refusal.Refusal.{Refusal}
-use Rattle.xf_form_machine.specs.declared.refusal.Refusal.TheVariants as refusal
+use Rattle.xf_def_machine.specs.State.{State}
+use Rattle.xf_def_machine.specs.Refusal as machine
+use Rattle.xf_def_machine.specs.Replies.{answers_in, note_lines, ok_text}
+use Rattle.xf_def_machine.specs.Step.{Posted, Outcome}
+use Rattle.xf_def_machine.specs.declared.refusal.Refusal.{Refusal}
+use Rattle.xf_def_machine.specs.declared.refusal.Refusal.TheVariants as refusal
 pub use Rattle.xf_session.specs.Processing.{IsAccepted, IsRefusedAfter, started}
-use Rattle.xf_work.specs.Does.{IsRefused}
-use Rattle.xf_work.specs.Standing.{Standing, state_of}
-use Rattle.xf_world.specs.declared.fault.EventFault.{EventFault}
-use Rattle.xf_world.specs.declared.fault.EventFault.TheVariants.{Refused, Memory}
+use Rattle.xf_engine_state.specs.Does.{IsRefused}
+use Rattle.xf_engine_state.specs.Standing.{Standing, state_of}
+use Rattle.xf_engine_world.specs.declared.fault.EventFault.{EventFault}
+use Rattle.xf_engine_world.specs.declared.fault.EventFault.TheVariants.{Refused, Memory}
 
 -- ---- construction
 

@@ -1,15 +1,15 @@
 -- What is tried before the text of a control is set, a trigger activated and an index set.
 use Rattle.std.specs.Prelude.{ℕ, not, List, codes, Option, Result, Ok}
-use Rattle.xf_ui.specs.Index.{rows_now}
-use Rattle.xf_form_machine.specs.Choose.{set_index}
-use Rattle.xf_form_machine.specs.Events.{Fired, plainly}
-use Rattle.xf_form_machine.specs.Profile.{Profile}
-use Rattle.xf_form_machine.specs.State.{State}
-use Rattle.xf_form_machine.specs.Refusal.{Refused, bad_index, disabled, or_long}
-use Rattle.xf_form_machine.specs.Flow.{Run, ◌>>=◌}
-use Rattle.xf_form_machine.specs.Surround.{interface, quiet}
-use Rattle.xf_form_machine.specs.Targets.{copy_named, model_around, unless}
-use Rattle.xf_form_machine.specs.Step.{is_row, try_set}
+use Rattle.xf_def_ui.specs.Index.{rows_now}
+use Rattle.xf_def_machine.specs.Choose.{set_index}
+use Rattle.xf_def_machine.specs.Events.{Fired, plainly}
+use Rattle.xf_def_machine.specs.Profile.{Profile}
+use Rattle.xf_def_machine.specs.State.{State}
+use Rattle.xf_def_machine.specs.Refusal.{Refused, bad_index, disabled, or_long}
+use Rattle.xf_def_machine.specs.Flow.{Run, ◌>>=◌}
+use Rattle.xf_def_machine.specs.Surround.{interface, quiet}
+use Rattle.xf_def_machine.specs.Targets.{copy_named, model_around, unless}
+use Rattle.xf_def_machine.specs.Step.{is_row, try_set}
 
 -- the node that the copy binds, where the text may be set
 abbrev pub node_tried : Profile → ℕ → List ℕ → List ℕ → State → Result (Option ℕ) Refused

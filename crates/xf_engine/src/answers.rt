@@ -1,7 +1,7 @@
 //! The answers of the store to the calls of an event.
 
 ghost use Rattle.std.specs.Prelude.{◌≡◌, IfOk};
-ghost use Rattle.xf_form_machine.specs.Replies.{answers_in};
+ghost use Rattle.xf_def_machine.specs.Replies.{answers_in};
 
 use std::alloc::{AllocError, Global};
 use xf_io::Bytes;

@@ -2,15 +2,15 @@
 //! puts back the data as they are then.
 
 ghost use Rattle.std.specs.Prelude.{◌≡◌, ◌<◌, ◌+◌, length, OnOk};
-ghost use Rattle.xf_form_machine.specs.Construct.{build_model as builds, construct as constructs};
-ghost use Rattle.xf_processor.specs.Formed.{program_in, profile, IsFromBytes};
-ghost use Rattle.xf_work.specs.Does.{Does};
-ghost use Rattle.xf_work.specs.Standing.{state_of};
+ghost use Rattle.xf_def_machine.specs.Construct.{build_model as builds, construct as constructs};
+ghost use Rattle.xf_def_form.specs.Formed.{program_in, profile, IsFromBytes};
+ghost use Rattle.xf_engine_state.specs.Does.{Does};
+ghost use Rattle.xf_engine_state.specs.Standing.{state_of};
 ghost use Rattle.xf_engine.specs.Constructed.{Builds, all_built, built_and_shown};
 
 use std::alloc::Global;
-use xf_loader::Loaded;
-use xf_work::{Work, WorkFault, planted};
+use xf_engine_state::{Work, WorkFault, planted};
+use xf_form::Loaded;
 
 /// Constructs a form.
 pub(crate) fn constructed(alloc: Global, loaded: Loaded) -> Result<Work, WorkFault>

@@ -1,13 +1,13 @@
 //! A form at work.
 
 ghost use Rattle.std.specs.Prelude.{◌≡◌, ◌++◌, string_bytes, OnOk};
-ghost use Rattle.xf_form_machine.specs.Construct.{construct};
-ghost use Rattle.xf_form_machine.specs.ControlText.{state_text};
-ghost use Rattle.xf_form_machine.specs.Step.{changed_by, step};
-ghost use Rattle.xf_processor.specs.Formed.{program_in, profile, IsFromBytes};
+ghost use Rattle.xf_def_machine.specs.Construct.{construct};
+ghost use Rattle.xf_def_machine.specs.ControlText.{state_text};
+ghost use Rattle.xf_def_machine.specs.Step.{changed_by, step};
+ghost use Rattle.xf_def_form.specs.Formed.{program_in, profile, IsFromBytes};
 ghost use Rattle.xf_store.specs.Called.{Called};
-ghost use Rattle.xf_work.specs.Standing.{state_of};
-ghost use Rattle.xf_world.specs.State as machine;
+ghost use Rattle.xf_engine_state.specs.Standing.{state_of};
+ghost use Rattle.xf_engine_world.specs.State as machine;
 ghost use Rattle.xf_engine.specs.Handled.{HandlesOver};
 ghost use Rattle.xf_engine.specs.Stepped.{IsConstructed, Starts, Steps, started};
 
@@ -17,12 +17,12 @@ use crate::start::ready;
 use std::alloc::{AllocError, Global};
 use std::marker::Model;
 use xf_actions::World;
+use xf_engine_state::Work;
+use xf_engine_world::{EventFault, FormWorld};
+use xf_form::Loaded;
 use xf_line::Event;
-use xf_loader::Loaded;
 use xf_report::push_ok;
 use xf_store::Store;
-use xf_work::Work;
-use xf_world::{EventFault, FormWorld};
 
 /// A form that is constructed. Contracts see the state of the form machine.
 pub struct Constructed {
@@ -46,8 +46,8 @@ impl Drop for Constructed {
 
 impl Model for Constructed {
     ghost use Rattle.std.specs.Coded.{codes};
-    ghost use Rattle.xf_ast.specs.contracts.expr.Expr as expr;
-    ghost use Rattle.xf_work.specs.Standing.{Standing};
+    ghost use Rattle.xf_def_syntax.specs.contracts.expr.Expr as expr;
+    ghost use Rattle.xf_engine_state.specs.Standing.{Standing};
 
     ghost Value = { Standing };
 
@@ -58,9 +58,9 @@ impl Model for Constructed {
 
 impl Model for Engine {
     ghost use Rattle.std.specs.Coded.{codes};
-    ghost use Rattle.xf_ast.specs.contracts.expr.Expr as expr;
-    ghost use Rattle.xf_work.specs.Standing.{Standing};
-    ghost use Rattle.xf_world.specs.Outside.{standing_of};
+    ghost use Rattle.xf_def_syntax.specs.contracts.expr.Expr as expr;
+    ghost use Rattle.xf_engine_state.specs.Standing.{Standing};
+    ghost use Rattle.xf_engine_world.specs.Outside.{standing_of};
     ghost use Rattle.xf_engine.specs.Handled.{IsAtEnd};
 
     ghost Value = { Standing };

@@ -1,28 +1,28 @@
 //! The events that come from outside.
 
 ghost use Rattle.std.specs.Prelude.{◌≡◌, option_map};
-ghost use Rattle.xf_form_machine.specs.Step.{changed_by, set_bound as bound_set, to_element};
-ghost use Rattle.xf_form_machine.specs.SetValue.{set_node as node_set};
+ghost use Rattle.xf_def_machine.specs.Step.{changed_by, set_bound as bound_set, to_element};
+ghost use Rattle.xf_def_machine.specs.SetValue.{set_node as node_set};
 ghost use Rattle.xf_line.specs.declared.event.Event.TheVariants.{Set, Activate, Index, Send, Dispatch, Reset};
-ghost use Rattle.xf_processor.specs.Formed.{profile};
+ghost use Rattle.xf_def_form.specs.Formed.{profile};
 ghost use Rattle.xf_store.specs.Called.{Called};
 ghost use Rattle.xf_actions.specs.Performs.{Reads, Runs, RunsOver};
 ghost use Rattle.xf_actions.specs.Seen.{fired_of};
-ghost use Rattle.xf_world.specs.Fault.{means};
-ghost use Rattle.xf_world.specs.State.{kept_of, state_of};
+ghost use Rattle.xf_engine_world.specs.Fault.{means};
+ghost use Rattle.xf_engine_world.specs.State.{kept_of, state_of};
 ghost use Rattle.xf_engine.specs.Tried.{activation_tried, index_tried, node_tried};
 
 use crate::naming::{Wanted, model, target};
 use crate::outermost::{settle, tell};
 use crate::rows::{copy_named, is_row, take_rows, takes_text};
 use xf_actions::{Fired, World};
-use xf_doc::NodeId;
-use xf_elements::model_at;
-use xf_form_machine::Refusal;
+use xf_def_forest::NodeId;
+use xf_def_machine::Refusal;
+use xf_engine_world::{EventFault, FormWorld};
+use xf_form_elements::model_at;
 use xf_line::Event;
 use xf_repeat::rows_now;
 use xf_store::Store;
-use xf_world::{EventFault, FormWorld};
 
 /// Does what an event asks for.
 pub(crate) fn change<S: Store>(

@@ -1,18 +1,18 @@
 //! The elements that events from outside name.
 
 ghost use Rattle.std.specs.Prelude.{◌≡◌, IfOk};
-ghost use Rattle.xf_form_machine.specs.Step.{model_named};
-ghost use Rattle.xf_form_machine.specs.Targets.{element_named, or_no_target};
+ghost use Rattle.xf_def_machine.specs.Step.{model_named};
+ghost use Rattle.xf_def_machine.specs.Targets.{element_named, or_no_target};
 ghost use Rattle.xf_actions.specs.Performs.{Reads};
-ghost use Rattle.xf_world.specs.Fault.{means};
-ghost use Rattle.xf_world.specs.State.{state_of};
+ghost use Rattle.xf_engine_world.specs.Fault.{means};
+ghost use Rattle.xf_engine_world.specs.State.{state_of};
 ghost use Rattle.xf_engine.specs.Naming.{is_named, is_wanted, named_from, wanted_in};
 
 use std::alloc::AllocError;
 use xf_actions::World;
-use xf_ast::{Control, Element, Kind};
-use xf_form_machine::Refusal;
-use xf_world::{EventFault, FormWorld};
+use xf_def_machine::Refusal;
+use xf_def_syntax::{Control, Element, Kind};
+use xf_engine_world::{EventFault, FormWorld};
 
 /// What an event asks of the element that it names.
 #[derive(Clone, Copy, Debug, PartialEq, Eq)]

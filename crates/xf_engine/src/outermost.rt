@@ -1,18 +1,18 @@
 //! What an event from outside dispatches and settles, while no other event is handled.
 
 ghost use Rattle.std.specs.Prelude.{◌≡◌};
-ghost use Rattle.xf_form_machine.specs.Step.{settle as settles, tell as tells};
-ghost use Rattle.xf_processor.specs.Formed.{profile};
+ghost use Rattle.xf_def_machine.specs.Step.{settle as settles, tell as tells};
+ghost use Rattle.xf_def_form.specs.Formed.{profile};
 ghost use Rattle.xf_store.specs.Called.{Called};
 ghost use Rattle.xf_actions.specs.Performs.{RunsOver};
 ghost use Rattle.xf_actions.specs.Seen.{fired_of};
-ghost use Rattle.xf_world.specs.Fault.{means};
-ghost use Rattle.xf_world.specs.State.{kept_of, state_of};
+ghost use Rattle.xf_engine_world.specs.Fault.{means};
+ghost use Rattle.xf_engine_world.specs.State.{kept_of, state_of};
 
 use xf_actions::{Fired, dispatch, update};
 use xf_base::limits::DISPATCH_LIMIT;
+use xf_engine_world::{EventFault, FormWorld};
 use xf_store::Store;
-use xf_world::{EventFault, FormWorld};
 
 /// Dispatches an event.
 pub(crate) fn tell<S: Store>(

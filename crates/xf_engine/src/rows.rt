@@ -2,27 +2,27 @@
 
 ghost use Rattle.std.specs.Prelude.{◌≡◌, zip};
 ghost use Rattle.xf_controls.specs.Seen.{seen_copy};
-ghost use Rattle.xf_form_machine.specs.Flow.{in_turn};
-ghost use Rattle.xf_form_machine.specs.Step.{is_row};
-ghost use Rattle.xf_form_machine.specs.Surround.{interface};
-ghost use Rattle.xf_form_machine.specs.Targets.{copy_named, take_rows as rows_taken, takes_text};
-ghost use Rattle.xf_ui.specs.Elements.{element_at};
-ghost use Rattle.xf_ui.specs.Interface.{sort_of};
-ghost use Rattle.xf_processor.specs.Formed.{profile};
+ghost use Rattle.xf_def_machine.specs.Flow.{in_turn};
+ghost use Rattle.xf_def_machine.specs.Step.{is_row};
+ghost use Rattle.xf_def_machine.specs.Surround.{interface};
+ghost use Rattle.xf_def_machine.specs.Targets.{copy_named, take_rows as rows_taken, takes_text};
+ghost use Rattle.xf_def_ui.specs.Elements.{element_at};
+ghost use Rattle.xf_def_ui.specs.Interface.{sort_of};
+ghost use Rattle.xf_def_form.specs.Formed.{profile};
 ghost use Rattle.xf_actions.specs.Performs.{Reads, Runs};
-ghost use Rattle.xf_world.specs.Fault.{means};
-ghost use Rattle.xf_world.specs.State.{kept_of, state_of};
+ghost use Rattle.xf_engine_world.specs.Fault.{means};
+ghost use Rattle.xf_engine_world.specs.State.{kept_of, state_of};
 ghost use Rattle.xf_engine.specs.Tried.{row_taken};
 
 use xf_actions::World;
-use xf_ast::{Control, Kind};
 use xf_controls::ControlCopy;
-use xf_doc::NodeList;
-use xf_elements::{element_in, model_at, repeats_around};
-use xf_form_machine::Refusal;
+use xf_def_forest::NodeList;
+use xf_def_machine::Refusal;
+use xf_def_syntax::{Control, Kind};
+use xf_engine_world::{EventFault, FormWorld};
+use xf_form_elements::{element_in, model_at, repeats_around};
 use xf_items::may_be_set;
 use xf_repeat::named_rows;
-use xf_world::{EventFault, FormWorld};
 
 /// The copy of an element in the rows that numbers name: the rows stand, and are neither too few nor too many.
 pub(crate) fn copy_named<'a>(

@@ -1,9 +1,9 @@
 //! A form at work, an event of which may be pending.
 
 ghost use Rattle.std.specs.Prelude.{◌≡◌, ◌++◌, None, string_bytes, OnOk};
-ghost use Rattle.xf_form_machine.specs.ControlText.{state_text};
-ghost use Rattle.xf_processor.specs.Formed.{profile};
-ghost use Rattle.xf_work.specs.Standing.{state_of};
+ghost use Rattle.xf_def_machine.specs.ControlText.{state_text};
+ghost use Rattle.xf_def_form.specs.Formed.{profile};
+ghost use Rattle.xf_engine_state.specs.Standing.{state_of};
 ghost use Rattle.xf_engine.specs.Running.{session_fault};
 
 use crate::answers::answers_to;
@@ -12,11 +12,11 @@ use crate::start::ready;
 use std::alloc::AllocError;
 use std::marker::Model;
 use xf_actions::World;
+use xf_engine_world::{EventFault, FormWorld};
 use xf_line::Event;
 use xf_session as session;
 use xf_session::{Processor, Starting};
 use xf_store::{Answers, Store};
-use xf_world::{EventFault, FormWorld};
 
 /// A form at work. An event that it takes is pending until it is kept or taken back. Contracts see what stands once that is kept, what
 /// stands again where it is taken back, and the calls of the store that are pending.
@@ -28,7 +28,7 @@ pub struct Running {
 
 impl Model for Running {
     ghost use Rattle.std.specs.Coded.{codes};
-    ghost use Rattle.xf_ast.specs.contracts.expr.Expr as expr;
+    ghost use Rattle.xf_def_syntax.specs.contracts.expr.Expr as expr;
     ghost use Rattle.xf_engine.specs.Running.{IsAtRest, Pending, pending_in};
     ghost use Rattle.std.specs.Prelude.{◌≡◌, false};
 
@@ -60,7 +60,7 @@ impl Running {
 
 impl Processor for Running {
     ghost use Rattle.std.specs.Prelude.{option_map};
-    ghost use Rattle.xf_work.specs.Standing.{state_of};
+    ghost use Rattle.xf_engine_state.specs.Standing.{state_of};
 
     ghost state = { λ r. state_of r.now };
 
@@ -108,7 +108,7 @@ impl Processor for Running {
 }
 
 impl Starting<Running> for Constructed {
-    ghost use Rattle.xf_work.specs.Standing.{state_of};
+    ghost use Rattle.xf_engine_state.specs.Standing.{state_of};
 
     ghost first = { state_of };
 

@@ -1,19 +1,19 @@
 //! How a form that is constructed starts (XForms 1.1, section 4.2): its models are told so.
 
 ghost use Rattle.std.specs.Prelude.{◌≡◌, ◌++◌, [], OnOk, string_bytes};
-ghost use Rattle.xf_form_machine.specs.Replies.{note_lines};
-ghost use Rattle.xf_form_machine.specs.Start.{readied, tell_model as tells_model, tell_models as tells_models};
-ghost use Rattle.xf_processor.specs.Formed.{profile};
+ghost use Rattle.xf_def_machine.specs.Replies.{note_lines};
+ghost use Rattle.xf_def_machine.specs.Start.{readied, tell_model as tells_model, tell_models as tells_models};
+ghost use Rattle.xf_def_form.specs.Formed.{profile};
 ghost use Rattle.xf_store.specs.Called.{Called};
 ghost use Rattle.xf_actions.specs.Performs.{RunsOver};
-ghost use Rattle.xf_world.specs.Fault.{means};
-ghost use Rattle.xf_world.specs.State.{state_of};
+ghost use Rattle.xf_engine_world.specs.Fault.{means};
+ghost use Rattle.xf_engine_world.specs.State.{state_of};
 
 use crate::outermost::tell;
 use xf_actions::World;
+use xf_engine_world::{EventFault, FormWorld};
 use xf_report::push_notes;
 use xf_store::Store;
-use xf_world::{EventFault, FormWorld};
 
 /// Tells the models that they are constructed and ready: an event of its own, with a whole budget. Appends the lines of its notes.
 pub(crate) fn ready<S: Store>(

@@ -1,17 +1,17 @@
 -- What a call is worth from what its arguments gave: branches, and lists of plain values.
 use Rattle.std.proofs.Common.{◌≡◌, ℕ, ◌+◌, ◌<◌, ◌≤◌, Bool, true, false, List, [], ◌∷◌, ◌++◌, map, drop, length, get_or, Option, Some, None, option_map, sym, ap, ◌∙◌}
 use Rattle.std.proofs.lemmas.List.{at_drop_more, at_drop_all}
-use Rattle.xf_ast.specs.declared.expr.Expr.{Expr}
-use Rattle.xf_doc.specs.declared.content.Node.{Node}
-use Rattle.xf_plain_values.specs.declared.plain.Plain.{Plain}
+use Rattle.xf_def_syntax.specs.declared.expr.Expr.{Expr}
+use Rattle.xf_def_forest.specs.declared.content.Node.{Node}
+use Rattle.xf_def_values.specs.declared.plain.Plain.{Plain}
 use Rattle.xf_funcs.specs.Called.{called}
-use Rattle.xf_lang.specs.declared.context.Context.{Context}
-use Rattle.xf_lang.specs.declared.value.Value.{Value}
-use Rattle.xf_lang.specs.Given.{Given}
-use Rattle.xf_lang.specs.Setting.{Focus, Meaning, Setting, ◌>>=◌, each}
-use Rattle.xf_lang.specs.Conversions.{plain_of, truth_of}
-use Rattle.xf_lang.specs.Functions.{argument, branch, branched, plain_arguments}
-use Rattle.xf_lang.specs.Meaning.{focus_of, meaning, setting_of}
+use Rattle.xf_def_xpath.specs.declared.context.Context.{Context}
+use Rattle.xf_def_xpath.specs.declared.value.Value.{Value}
+use Rattle.xf_def_xpath.specs.Given.{Given}
+use Rattle.xf_def_xpath.specs.Setting.{Focus, Meaning, Setting, ◌>>=◌, each}
+use Rattle.xf_def_xpath.specs.Conversions.{plain_of, truth_of}
+use Rattle.xf_def_xpath.specs.Functions.{argument, branch, branched, plain_arguments}
+use Rattle.xf_def_xpath.specs.Meaning.{focus_of, meaning, setting_of}
 use Rattle.xf_eval.specs.ByKind.{argument_or}
 use Rattle.xf_eval.specs.First.{counted}
 use Rattle.xf_eval.specs.Worth.{bare_setting}

@@ -5,24 +5,24 @@ use Rattle.std.specs.List.{flat_map}
 use Rattle.std.proofs.lemmas.Bool.{eqb-true}
 use Rattle.xf_name.specs.declared.axis.Axis.{Axis}
 use Rattle.xf_name.specs.declared.axis.Axis.TheVariants.{Child, Descendant, DescendantOrSelf}
-use Rattle.xf_ast.specs.declared.expr.Test.{Test}
-use Rattle.xf_ast.specs.declared.expr.Test.TheVariants as test
-use Rattle.xf_doc.specs.declared.content.Content.{Content}
-use Rattle.xf_doc.specs.declared.content.Content.TheVariants as content
-use Rattle.xf_doc.specs.Forest.{is_attribute}
-use Rattle.xf_doc.specs.Visit.{Visit, has, is_first}
-use Rattle.xf_doc.specs.Axis.{is_on, axis_from}
-use Rattle.xf_doc.specs.Texts.{Keeping}
-use Rattle.xf_doc.specs.WellFormed.{AreTrees}
-use Rattle.xf_doc.proofs.BackLaws.{and-true}
-use Rattle.xf_lang.specs.Setting.{Setting, ◌>>=◌, each, in_order, joined}
-use Rattle.xf_lang.specs.Tests.{meets}
-use Rattle.xf_lang.specs.Asked.{found, has_list}
-use Rattle.xf_lang.specs.Steps.{begun_at, reached}
-use Rattle.xf_lang.specs.Agree.{numbers_of, untexted, AreVisits}
-use Rattle.xf_lang.proofs.ForestVisits.{forest-visits}
-use Rattle.xf_lang.proofs.SameKept.{on, numbers-filter}
-use Rattle.xf_lang.proofs.VisitFacts.{self-same, or-cases, or-left, or-right, no, some-same, none-some, filter-and, filter-same, found-number, has-found, kept_if, found-filter, found-out}
+use Rattle.xf_def_syntax.specs.declared.expr.Test.{Test}
+use Rattle.xf_def_syntax.specs.declared.expr.Test.TheVariants as test
+use Rattle.xf_def_forest.specs.declared.content.Content.{Content}
+use Rattle.xf_def_forest.specs.declared.content.Content.TheVariants as content
+use Rattle.xf_def_forest.specs.Forest.{is_attribute}
+use Rattle.xf_def_forest.specs.Visit.{Visit, has, is_first}
+use Rattle.xf_def_forest.specs.Axis.{is_on, axis_from}
+use Rattle.xf_def_forest.specs.Texts.{Keeping}
+use Rattle.xf_def_forest.specs.WellFormed.{AreTrees}
+use Rattle.xf_def_forest.proofs.BackLaws.{and-true}
+use Rattle.xf_def_xpath.specs.Setting.{Setting, ◌>>=◌, each, in_order, joined}
+use Rattle.xf_def_xpath.specs.Tests.{meets}
+use Rattle.xf_def_xpath.specs.Asked.{found, has_list}
+use Rattle.xf_def_xpath.specs.Steps.{begun_at, reached}
+use Rattle.xf_def_xpath.specs.Agree.{numbers_of, untexted, AreVisits}
+use Rattle.xf_def_xpath.proofs.ForestVisits.{forest-visits}
+use Rattle.xf_def_xpath.proofs.SameKept.{on, numbers-filter}
+use Rattle.xf_def_xpath.proofs.VisitFacts.{self-same, or-cases, or-left, or-right, no, some-same, none-some, filter-and, filter-same, found-number, has-found, kept_if, found-filter, found-out}
 use Rattle.xf_eval.specs.Taken.{taken}
 use Rattle.xf_eval.specs.Worth.{seen}
 use Rattle.xf_eval.proofs.Lists.{append-none}

@@ -1,6 +1,6 @@
 -- A call that is the whole of what is to be given, or a part of it.
 use Rattle.std.proofs.Common.{◌≡◌, ◌⊎◌, inl, inr, Option, None, Result, subst}
-use Rattle.xf_plain_values.specs.Bounded.{GivesBounded}
+use Rattle.xf_def_values.specs.Bounded.{GivesBounded}
 
 pub gives-same : {X Y E : Type 0} (memory long : E) (view : X → Y) (r : Result X E) (m w : Option Y) → m ≡ w → GivesBounded memory long view r m → GivesBounded memory long view r w
 gives-same memory long view r m w e h = subst (GivesBounded memory long view r) e h

@@ -2,22 +2,22 @@
 use Rattle.std.proofs.Common.{◌≡◌, ℕ, zero, suc, List, [], ◌∷◌, Option, Some, None, option_map, refl, ap, ◌∙◌}
 use Rattle.std.specs.Prelude.{option_and_then, unwrap_or}
 use Rattle.xf_base.specs.Limits.{string_limit}
-use Rattle.xf_doc.specs.declared.content.Node.{Node}
-use Rattle.xf_doc.specs.declared.content.Name.{Name}
-use Rattle.xf_doc.specs.Forest.{name_in, written_in}
-use Rattle.xf_plain_values.specs.declared.plain.Plain.{Plain}
-use Rattle.xf_plain_values.specs.Bounded.{◌>>=◌, capped}
+use Rattle.xf_def_forest.specs.declared.content.Node.{Node}
+use Rattle.xf_def_forest.specs.declared.content.Name.{Name}
+use Rattle.xf_def_forest.specs.Forest.{name_in, written_in}
+use Rattle.xf_def_values.specs.declared.plain.Plain.{Plain}
+use Rattle.xf_def_values.specs.Bounded.{◌>>=◌, capped}
 use Rattle.xf_funcs.specs.Called as funcs
-use Rattle.xf_lang.specs.declared.context.Context.{Context}
-use Rattle.xf_lang.specs.declared.value.Value.{Value}
-use Rattle.xf_lang.specs.declared.value.Value.TheVariants.{Nodes, Text, Number, Truth}
-use Rattle.xf_lang.specs.Given.{Given, beside, document_of, property_of}
-use Rattle.xf_lang.specs.Setting.{Focus, Meaning, Setting}
-use Rattle.xf_lang.specs.Binding.{as_list}
-use Rattle.xf_lang.specs.Conversions.{nodes_of, number_of, plain_of, string_of, truth_of, value_of_plain}
-use Rattle.xf_lang.specs.Functions.{argument, branched, index_number, instance_id, local_part, namespace_of, own_argument, plain_arguments, set_of}
-use Rattle.xf_lang.specs.Functions as functions
-use Rattle.xf_lang.specs.Meaning.{focus_of, setting_of}
+use Rattle.xf_def_xpath.specs.declared.context.Context.{Context}
+use Rattle.xf_def_xpath.specs.declared.value.Value.{Value}
+use Rattle.xf_def_xpath.specs.declared.value.Value.TheVariants.{Nodes, Text, Number, Truth}
+use Rattle.xf_def_xpath.specs.Given.{Given, beside, document_of, property_of}
+use Rattle.xf_def_xpath.specs.Setting.{Focus, Meaning, Setting}
+use Rattle.xf_def_xpath.specs.Binding.{as_list}
+use Rattle.xf_def_xpath.specs.Conversions.{nodes_of, number_of, plain_of, string_of, truth_of, value_of_plain}
+use Rattle.xf_def_xpath.specs.Functions.{argument, branched, index_number, instance_id, local_part, namespace_of, own_argument, plain_arguments, set_of}
+use Rattle.xf_def_xpath.specs.Functions as functions
+use Rattle.xf_def_xpath.specs.Meaning.{focus_of, setting_of}
 use Rattle.xf_eval.specs.declared.kinds.Kind.{Kind}
 use Rattle.xf_eval.specs.declared.kinds.Kind.TheVariants as kind
 use Rattle.xf_eval.specs.Kinds.{function_in}

@@ -3,20 +3,20 @@ use Rattle.std.proofs.Common.{◌≡◌, ℕ, ◌==◌, Bool, true, false, not, 
 use Rattle.std.specs.Prelude.{filter, find, reverse, option_and_then}
 use Rattle.xf_name.specs.declared.axis.Axis.{Axis}
 use Rattle.xf_name.specs.declared.axis.Axis.TheVariants.{Child, Attribute, Self_, Parent, Ancestor, AncestorOrSelf, Descendant, DescendantOrSelf, FollowingSibling, PrecedingSibling}
-use Rattle.xf_ast.specs.declared.expr.Test.{Test}
-use Rattle.xf_ast.specs.declared.expr.Test.TheVariants as test
-use Rattle.xf_doc.specs.declared.content.Node.{Node}
-use Rattle.xf_doc.specs.declared.content.Content.{Content}
-use Rattle.xf_doc.specs.declared.content.Content.TheVariants as content
-use Rattle.xf_doc.specs.Forest.{content_at, is_attribute, is_element, is_text, name_in}
-use Rattle.xf_doc.specs.Visit.{Visit, visit, visits, visits_from, still_above, has, is_first, same_parent, above_in, last_of, top_of}
-use Rattle.xf_doc.specs.Axis.{after, before, in_range, in_proximity, is_on, is_reverse, on_axis, axis_from}
-use Rattle.xf_doc.specs.Shape.{erased, without_text}
-use Rattle.xf_doc.proofs.RenumberLaws.{find-through, filter-through, map-map, map-reverse}
-use Rattle.xf_lang.specs.Setting.{in_order}
-use Rattle.xf_lang.specs.Steps.{reached}
-use Rattle.xf_lang.specs.Tests.{has_name, is_in_space, is_principal, meets}
-use Rattle.xf_lang.specs.Functions.{first_name}
+use Rattle.xf_def_syntax.specs.declared.expr.Test.{Test}
+use Rattle.xf_def_syntax.specs.declared.expr.Test.TheVariants as test
+use Rattle.xf_def_forest.specs.declared.content.Node.{Node}
+use Rattle.xf_def_forest.specs.declared.content.Content.{Content}
+use Rattle.xf_def_forest.specs.declared.content.Content.TheVariants as content
+use Rattle.xf_def_forest.specs.Forest.{content_at, is_attribute, is_element, is_text, name_in}
+use Rattle.xf_def_forest.specs.Visit.{Visit, visit, visits, visits_from, still_above, has, is_first, same_parent, above_in, last_of, top_of}
+use Rattle.xf_def_forest.specs.Axis.{after, before, in_range, in_proximity, is_on, is_reverse, on_axis, axis_from}
+use Rattle.xf_def_forest.specs.Shape.{erased, without_text}
+use Rattle.xf_def_forest.proofs.RenumberLaws.{find-through, filter-through, map-map, map-reverse}
+use Rattle.xf_def_xpath.specs.Setting.{in_order}
+use Rattle.xf_def_xpath.specs.Steps.{reached}
+use Rattle.xf_def_xpath.specs.Tests.{has_name, is_in_space, is_principal, meets}
+use Rattle.xf_def_xpath.specs.Functions.{first_name}
 use Rattle.xf_eval.specs.OfNodes.{first_content}
 
 -- ---- what a node is

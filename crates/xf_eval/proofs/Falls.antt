@@ -1,10 +1,10 @@
 -- The parts of an expression are less deep than the whole.
 use Rattle.std.proofs.Common.{◌≡◌, ◌<◌, List, [], ◌∷◌, rules}
 use denote.Param.Weighed.{most}
-use Rattle.xf_ast.specs.declared.expr.Expr.{Expr, size-Expr, the_lemmas}
-use Rattle.xf_ast.specs.declared.expr.Expr.TheVariants.{Chain, Filter, From}
-use Rattle.xf_ast.specs.declared.expr.Link.{Link, size-Link}
-use Rattle.xf_ast.specs.declared.expr.Step.{Step, size-Step}
+use Rattle.xf_def_syntax.specs.declared.expr.Expr.{Expr, size-Expr, the_lemmas}
+use Rattle.xf_def_syntax.specs.declared.expr.Expr.TheVariants.{Chain, Filter, From}
+use Rattle.xf_def_syntax.specs.declared.expr.Link.{Link, size-Link}
+use Rattle.xf_def_syntax.specs.declared.expr.Step.{Step, size-Step}
 
 pub chain-falls : (e first : Expr) (links ls : List Link) → e ≡ Chain first links → ls ≡ links → most size-Link ls < size-Expr e
 chain-falls e first links ls h i = search (rules, the_lemmas)

@@ -5,33 +5,33 @@ use denote.Param.Weighed.{most}
 use Rattle.xf_base.specs.Limits.{string_limit}
 use Rattle.xf_name.specs.Bindings.{Bindings}
 use Rattle.xf_name.specs.declared.axis.Axis.{Axis}
-use Rattle.xf_ast.specs.declared.expr.Expr.{Expr}
-use Rattle.xf_ast.specs.declared.expr.Expr.TheVariants as expr
-use Rattle.xf_ast.specs.declared.expr.Link.{Link}
-use Rattle.xf_ast.specs.declared.expr.Operator.{Operator}
-use Rattle.xf_ast.specs.declared.expr.Operator.TheVariants.{Or, And, Equal, NotEqual, Less, LessOrEqual, Greater, GreaterOrEqual, Add, Subtract, Multiply, Divide, Modulo, Union}
-use Rattle.xf_ast.specs.declared.expr.Step.{Step}
-use Rattle.xf_ast.specs.declared.expr.Test.{Test}
-use Rattle.xf_doc.specs.declared.content.Node.{Node}
-use Rattle.xf_doc.specs.Axis.{is_reverse}
-use Rattle.xf_doc.specs.Forest.{name_in}
-use Rattle.xf_doc.specs.Texts.{Keeping}
-use Rattle.xf_doc.specs.WellFormed.{AreTrees}
-use Rattle.xf_plain_values.specs.Bounded.{capped}
-use Rattle.xf_plain_values.specs.Conversions.{Decimal, number_in, text_in}
+use Rattle.xf_def_syntax.specs.declared.expr.Expr.{Expr}
+use Rattle.xf_def_syntax.specs.declared.expr.Expr.TheVariants as expr
+use Rattle.xf_def_syntax.specs.declared.expr.Link.{Link}
+use Rattle.xf_def_syntax.specs.declared.expr.Operator.{Operator}
+use Rattle.xf_def_syntax.specs.declared.expr.Operator.TheVariants.{Or, And, Equal, NotEqual, Less, LessOrEqual, Greater, GreaterOrEqual, Add, Subtract, Multiply, Divide, Modulo, Union}
+use Rattle.xf_def_syntax.specs.declared.expr.Step.{Step}
+use Rattle.xf_def_syntax.specs.declared.expr.Test.{Test}
+use Rattle.xf_def_forest.specs.declared.content.Node.{Node}
+use Rattle.xf_def_forest.specs.Axis.{is_reverse}
+use Rattle.xf_def_forest.specs.Forest.{name_in}
+use Rattle.xf_def_forest.specs.Texts.{Keeping}
+use Rattle.xf_def_forest.specs.WellFormed.{AreTrees}
+use Rattle.xf_def_values.specs.Bounded.{capped}
+use Rattle.xf_def_values.specs.Conversions.{Decimal, number_in, text_in}
 use Rattle.xf_funcs.specs.Called.{called}
-use Rattle.xf_lang.specs.declared.context.Context.{Context}
-use Rattle.xf_lang.specs.declared.value.Value.{Value}
-use Rattle.xf_lang.specs.declared.value.Value.TheVariants.{Nodes, Text, Number, Truth}
-use Rattle.xf_lang.specs.Binding.{as_list}
-use Rattle.xf_lang.specs.Given.{Given, beside, document_of, property_of}
-use Rattle.xf_lang.specs.Conversions.{nodes_of, number_of, plain_of, string_of, truth_of}
-use Rattle.xf_lang.specs.Functions.{branch, index_number}
-use Rattle.xf_lang.specs.Meaning.{focus_of, meaning, meaning_of_link, setting_of, walk_of}
-use Rattle.xf_lang.specs.Operators.{and_then, chained, combined, computed, linked, or_else}
-use Rattle.xf_lang.specs.Setting.{Focus, Meaning, Setting, ◌>>=◌, in_order}
-use Rattle.xf_lang.specs.Steps.{from_one, reached, walked}
-use Rattle.xf_lang.proofs.Equations.{meaning-Chain}
+use Rattle.xf_def_xpath.specs.declared.context.Context.{Context}
+use Rattle.xf_def_xpath.specs.declared.value.Value.{Value}
+use Rattle.xf_def_xpath.specs.declared.value.Value.TheVariants.{Nodes, Text, Number, Truth}
+use Rattle.xf_def_xpath.specs.Binding.{as_list}
+use Rattle.xf_def_xpath.specs.Given.{Given, beside, document_of, property_of}
+use Rattle.xf_def_xpath.specs.Conversions.{nodes_of, number_of, plain_of, string_of, truth_of}
+use Rattle.xf_def_xpath.specs.Functions.{branch, index_number}
+use Rattle.xf_def_xpath.specs.Meaning.{focus_of, meaning, meaning_of_link, setting_of, walk_of}
+use Rattle.xf_def_xpath.specs.Operators.{and_then, chained, combined, computed, linked, or_else}
+use Rattle.xf_def_xpath.specs.Setting.{Focus, Meaning, Setting, ◌>>=◌, in_order}
+use Rattle.xf_def_xpath.specs.Steps.{from_one, reached, walked}
+use Rattle.xf_def_xpath.proofs.Equations.{meaning-Chain}
 use Rattle.xf_eval.specs.declared.kinds.Kind.{Kind}
 use Rattle.xf_eval.specs.declared.kinds.Kind.TheVariants as kind
 use Rattle.xf_eval.specs.Answered.{answered}

@@ -1,18 +1,18 @@
 -- The nodes that a predicate keeps, node by node; and what a step takes, from all its nodes.
 use Rattle.std.proofs.Common.{◌≡◌, ℕ, zero, suc, ◌+◌, ◌<◌, ◌≤◌, Bool, true, false, List, [], ◌∷◌, ◌++◌, map, drop, length, get_or, Option, Some, None, option_map, refl, sym, ap, ◌∙◌, add-one, slice_get}
 use Rattle.std.proofs.lemmas.List.{at_drop_more, at_drop_all}
-use Rattle.xf_doc.specs.declared.content.Node.{Node}
-use Rattle.xf_doc.specs.declared.node.NodeId.{NodeId}
-use Rattle.xf_doc.specs.Forest.{has_number}
-use Rattle.xf_doc.specs.Visit.{visits}
-use Rattle.xf_lang.specs.declared.value.Value.{Value}
-use Rattle.xf_lang.specs.declared.value.Value.TheVariants.{Nodes, Text, Number, Truth}
+use Rattle.xf_def_forest.specs.declared.content.Node.{Node}
+use Rattle.xf_def_forest.specs.declared.node.NodeId.{NodeId}
+use Rattle.xf_def_forest.specs.Forest.{has_number}
+use Rattle.xf_def_forest.specs.Visit.{visits}
+use Rattle.xf_def_xpath.specs.declared.value.Value.{Value}
+use Rattle.xf_def_xpath.specs.declared.value.Value.TheVariants.{Nodes, Text, Number, Truth}
 use Rattle.xf_eval.specs.First.{counted, first_alone}
-use Rattle.xf_lang.specs.Setting.{Meaning, Setting, ◌>>=◌, each, in_order, joined}
-use Rattle.xf_lang.specs.Steps.{is_true_at, kept_by_all, kept_from, reached}
+use Rattle.xf_def_xpath.specs.Setting.{Meaning, Setting, ◌>>=◌, each, in_order, joined}
+use Rattle.xf_def_xpath.specs.Steps.{is_true_at, kept_by_all, kept_from, reached}
 use Rattle.std.specs.List.{flat_map}
 use Rattle.xf_name.specs.declared.axis.Axis.{Axis}
-use Rattle.xf_ast.specs.declared.expr.Test.{Test}
+use Rattle.xf_def_syntax.specs.declared.expr.Test.{Test}
 use Rattle.xf_eval.specs.Live.{AllLive}
 use Rattle.xf_eval.specs.Taken.{taken}
 use Rattle.xf_eval.specs.Worth.{seen}

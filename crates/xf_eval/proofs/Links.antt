@@ -1,18 +1,18 @@
 -- A chain of one operator, which compares: of what stands on its two sides.
 use Rattle.std.proofs.Common.{◌≡◌, true, List, [], ◌∷◌, Option, Some, None, option_map, refl, ap, ◌∙◌}
-use Rattle.xf_doc.specs.declared.content.Node.{Node}
-use Rattle.xf_ast.specs.declared.expr.Link.{Link}
-use Rattle.xf_ast.specs.declared.expr.Operator.{Operator}
-use Rattle.xf_ast.specs.declared.expr.Operator.TheVariants.{Or, And, Equal, NotEqual, Less, LessOrEqual, Greater, GreaterOrEqual, Add, Subtract, Multiply, Divide, Modulo, Union}
+use Rattle.xf_def_forest.specs.declared.content.Node.{Node}
+use Rattle.xf_def_syntax.specs.declared.expr.Link.{Link}
+use Rattle.xf_def_syntax.specs.declared.expr.Operator.{Operator}
+use Rattle.xf_def_syntax.specs.declared.expr.Operator.TheVariants.{Or, And, Equal, NotEqual, Less, LessOrEqual, Greater, GreaterOrEqual, Add, Subtract, Multiply, Divide, Modulo, Union}
 use Rattle.xf_funcs.specs.Called.{called}
-use Rattle.xf_lang.specs.declared.context.Context.{Context}
-use Rattle.xf_lang.specs.declared.value.Value.{Value}
-use Rattle.xf_lang.specs.declared.value.Value.TheVariants.{Truth}
-use Rattle.xf_lang.specs.Comparisons.{compared}
-use Rattle.xf_lang.specs.Given.{Given}
-use Rattle.xf_lang.specs.Setting.{Focus, Meaning, Setting, ◌>>=◌}
-use Rattle.xf_lang.specs.Meaning.{meaning, meaning_of_link, setting_of}
-use Rattle.xf_lang.specs.Operators.{chained, linked}
+use Rattle.xf_def_xpath.specs.declared.context.Context.{Context}
+use Rattle.xf_def_xpath.specs.declared.value.Value.{Value}
+use Rattle.xf_def_xpath.specs.declared.value.Value.TheVariants.{Truth}
+use Rattle.xf_def_xpath.specs.Comparisons.{compared}
+use Rattle.xf_def_xpath.specs.Given.{Given}
+use Rattle.xf_def_xpath.specs.Setting.{Focus, Meaning, Setting, ◌>>=◌}
+use Rattle.xf_def_xpath.specs.Meaning.{meaning, meaning_of_link, setting_of}
+use Rattle.xf_def_xpath.specs.Operators.{chained, linked}
 use Rattle.xf_eval.specs.Answered.{compares}
 use Rattle.xf_eval.specs.Worth.{setting_in}
 use Rattle.xf_eval.proofs.Runs.{chain-goes}

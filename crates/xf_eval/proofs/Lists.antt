@@ -1,8 +1,8 @@
 -- Lists that may be too long, item by item: what is done, and what is left.
 use Rattle.std.proofs.Common.{◌≡◌, ◌⊎◌, inl, inr, ℕ, ◌+◌, List, [], ◌∷◌, ◌++◌, map, length, Option, Some, None, option_map, Bool, false, is_some, slice_get, refl, sym, ap, ◌∙◌, append_assoc}
 use Rattle.std.specs.Prelude.{filter}
-use Rattle.xf_lang.specs.Setting.{◌>>=◌, each}
-use Rattle.xf_lang.specs.Conversions.{is_filled}
+use Rattle.xf_def_xpath.specs.Setting.{◌>>=◌, each}
+use Rattle.xf_def_xpath.specs.Conversions.{is_filled}
 
 -- what is left behind what is done
 abbrev pub onto : {B : Type 0} → List B → Option (List B) → Option (List B)

@@ -5,21 +5,21 @@ use Rattle.std.specs.List.{list_all}
 use mathlib.Core.List.{reverse_aux}
 use Rattle.std.proofs.lemmas.Bool.Decides.{nat_tests}
 use Rattle.xf_name.specs.declared.axis.Axis.{Axis}
-use Rattle.xf_ast.specs.declared.expr.Test.{Test}
-use Rattle.xf_doc.specs.declared.content.Node.{Node}
-use Rattle.xf_doc.specs.declared.node.NodeId.{NodeId}
-use Rattle.xf_doc.specs.Forest.{Forest, content_at, has_number}
-use Rattle.xf_doc.specs.Visit.{Visit, visits, has}
-use Rattle.xf_doc.specs.Axis.{axis_from, axis_of, is_reverse, on_axis}
-use Rattle.xf_doc.specs.Shape.{erased}
-use Rattle.xf_doc.specs.Texts.{Keeping}
-use Rattle.xf_doc.specs.WellFormed.{AreTrees, HasTrees}
-use Rattle.xf_doc.proofs.OrderLaws.{Sub, done, skip, keep, axis-in_order, visits-different}
-use Rattle.xf_doc.proofs.LiveLaws.{axis-all_live, in_order-live}
-use Rattle.xf_lang.specs.Setting.{in_order}
-use Rattle.xf_lang.specs.Steps.{reached}
-use Rattle.xf_lang.specs.Tests.{meets}
-use Rattle.xf_lang.proofs.ForestVisits.{Each, each-map, self-found}
+use Rattle.xf_def_syntax.specs.declared.expr.Test.{Test}
+use Rattle.xf_def_forest.specs.declared.content.Node.{Node}
+use Rattle.xf_def_forest.specs.declared.node.NodeId.{NodeId}
+use Rattle.xf_def_forest.specs.Forest.{Forest, content_at, has_number}
+use Rattle.xf_def_forest.specs.Visit.{Visit, visits, has}
+use Rattle.xf_def_forest.specs.Axis.{axis_from, axis_of, is_reverse, on_axis}
+use Rattle.xf_def_forest.specs.Shape.{erased}
+use Rattle.xf_def_forest.specs.Texts.{Keeping}
+use Rattle.xf_def_forest.specs.WellFormed.{AreTrees, HasTrees}
+use Rattle.xf_def_forest.proofs.OrderLaws.{Sub, done, skip, keep, axis-in_order, visits-different}
+use Rattle.xf_def_forest.proofs.LiveLaws.{axis-all_live, in_order-live}
+use Rattle.xf_def_xpath.specs.Setting.{in_order}
+use Rattle.xf_def_xpath.specs.Steps.{reached}
+use Rattle.xf_def_xpath.specs.Tests.{meets}
+use Rattle.xf_def_xpath.proofs.ForestVisits.{Each, each-map, self-found}
 use Rattle.xf_eval.specs.Live.{AllLive}
 use Rattle.xf_eval.specs.Met.{is_met}
 use Rattle.xf_eval.proofs.Erased.{content-seen, reached-erased}

@@ -1,8 +1,8 @@
 -- A loop that makes something of the string value of each node.
 use Rattle.std.proofs.Common.{◌≡◌, ℕ, ◌+◌, ◌<◌, ◌≤◌, List, map, drop, length, get_or, Option, Some, None, option_map, sym, ap, ◌∙◌}
 use Rattle.std.proofs.lemmas.List.{at_drop_more, at_drop_all}
-use Rattle.xf_doc.specs.declared.node.NodeId.{NodeId}
-use Rattle.xf_lang.specs.Setting.{each}
+use Rattle.xf_def_forest.specs.declared.node.NodeId.{NodeId}
+use Rattle.xf_def_xpath.specs.Setting.{each}
 use Rattle.xf_eval.proofs.Lists.{onto, onto-end, onto-none, each-mapped}
 
 abbrev numbers : List NodeId → List ℕ

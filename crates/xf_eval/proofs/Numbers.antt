@@ -1,13 +1,13 @@
 -- What the functions of numbers make of a set, from the numbers of its nodes.
 use Rattle.std.proofs.Common.{◌≡◌, ℕ, List, [], ◌∷◌, map, length, Option, Some, None, option_map, refl, sym, ap, ◌∙◌, suc}
-use Rattle.xf_doc.specs.declared.content.Node.{Node}
+use Rattle.xf_def_forest.specs.declared.content.Node.{Node}
 use Rattle.xf_num.specs.Number.{quotient}
 use Rattle.xf_num.specs.Written.{read_at}
-use Rattle.xf_plain_values.specs.Conversions.{Decimal, whole}
-use Rattle.xf_lang.specs.declared.value.Value.TheVariants.{Number}
-use Rattle.xf_lang.specs.Setting.{◌>>=◌, each}
-use Rattle.xf_lang.specs.Conversions.{string_of_node, strings_of}
-use Rattle.xf_lang.specs.Functions.{average, extreme, greater, lesser, of_numbers, total}
+use Rattle.xf_def_values.specs.Conversions.{Decimal, whole}
+use Rattle.xf_def_xpath.specs.declared.value.Value.TheVariants.{Number}
+use Rattle.xf_def_xpath.specs.Setting.{◌>>=◌, each}
+use Rattle.xf_def_xpath.specs.Conversions.{string_of_node, strings_of}
+use Rattle.xf_def_xpath.specs.Functions.{average, extreme, greater, lesser, of_numbers, total}
 use Rattle.xf_eval.specs.declared.kinds.Kind.{Kind}
 use Rattle.xf_eval.specs.declared.kinds.Kind.TheVariants as kind
 use Rattle.xf_eval.specs.OfNodes.{set_worth}

@@ -4,23 +4,23 @@ use Rattle.std.specs.Prelude.{filter, find, reverse}
 use Rattle.std.proofs.lemmas.Bool.Decides.{nat_tests}
 use Rattle.xf_name.specs.declared.axis.Axis.{Axis}
 use Rattle.xf_name.specs.declared.axis.Axis.TheVariants.{DescendantOrSelf}
-use Rattle.xf_ast.specs.declared.expr.Test.{Test}
-use Rattle.xf_ast.specs.declared.expr.Test.TheVariants as test
-use Rattle.xf_doc.specs.declared.content.Node.{Node}
-use Rattle.xf_doc.specs.Forest.{has_number}
-use Rattle.xf_doc.specs.Visit.{Visit, visits, has}
-use Rattle.xf_doc.specs.Axis.{axis_from, is_reverse, on_axis}
-use Rattle.xf_doc.specs.Shape.{erased}
-use Rattle.xf_doc.specs.Texts.{Keeping}
-use Rattle.xf_doc.specs.WellFormed.{AreTrees, HasTrees}
-use Rattle.xf_doc.proofs.BackLaws.{and-true, or-false, not-true}
-use Rattle.xf_doc.proofs.OrderLaws.{Sub, done, skip, keep, are_different, axis-in_order, filter-sub, map-sub, sub-has, sub-none, sub-through, visits-different, seen-has}
-use Rattle.xf_doc.proofs.RenumberLaws.{filter-through, map-map}
-use Rattle.xf_lang.specs.Setting.{Meaning, Setting, ◌>>=◌, in_order, joined}
-use Rattle.xf_lang.specs.Steps.{begun_at, from_one, kept_by_all, reached}
-use Rattle.xf_lang.specs.Tests.{meets}
-use Rattle.xf_lang.proofs.Options.{IfGiven, nothing, given}
-use Rattle.xf_lang.proofs.OrderLaws.{kept_all-sub}
+use Rattle.xf_def_syntax.specs.declared.expr.Test.{Test}
+use Rattle.xf_def_syntax.specs.declared.expr.Test.TheVariants as test
+use Rattle.xf_def_forest.specs.declared.content.Node.{Node}
+use Rattle.xf_def_forest.specs.Forest.{has_number}
+use Rattle.xf_def_forest.specs.Visit.{Visit, visits, has}
+use Rattle.xf_def_forest.specs.Axis.{axis_from, is_reverse, on_axis}
+use Rattle.xf_def_forest.specs.Shape.{erased}
+use Rattle.xf_def_forest.specs.Texts.{Keeping}
+use Rattle.xf_def_forest.specs.WellFormed.{AreTrees, HasTrees}
+use Rattle.xf_def_forest.proofs.BackLaws.{and-true, or-false, not-true}
+use Rattle.xf_def_forest.proofs.OrderLaws.{Sub, done, skip, keep, are_different, axis-in_order, filter-sub, map-sub, sub-has, sub-none, sub-through, visits-different, seen-has}
+use Rattle.xf_def_forest.proofs.RenumberLaws.{filter-through, map-map}
+use Rattle.xf_def_xpath.specs.Setting.{Meaning, Setting, ◌>>=◌, in_order, joined}
+use Rattle.xf_def_xpath.specs.Steps.{begun_at, from_one, kept_by_all, reached}
+use Rattle.xf_def_xpath.specs.Tests.{meets}
+use Rattle.xf_def_xpath.proofs.Options.{IfGiven, nothing, given}
+use Rattle.xf_def_xpath.proofs.OrderLaws.{kept_all-sub}
 use Rattle.xf_eval.specs.Live.{AllLive}
 use Rattle.xf_eval.specs.Taken.{taken}
 use Rattle.xf_eval.specs.Worth.{seen}

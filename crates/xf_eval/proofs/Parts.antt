@@ -1,28 +1,28 @@
 -- One level of an expression from what its parts gave: steps, operators, calls, and the whole.
 use Rattle.std.proofs.Common.{◌≡◌, inl, inr, ℕ, zero, suc, ◌<◌, ◌≤◌, length, get_or, arith, Bool, true, false, not, List, [], ◌∷◌, map, Option, Some, None, option_map, Result, Ok, Err, refl, sym, ap, ◌∙◌}
 use Rattle.xf_base.specs.Gives.{Gives}
-use Rattle.xf_doc.specs.declared.content.Node.{Node}
-use Rattle.xf_ast.specs.declared.expr.Expr.{Expr}
-use Rattle.xf_ast.specs.declared.expr.Expr.TheVariants as expr
-use Rattle.xf_ast.specs.declared.expr.Step.{Step}
-use Rattle.xf_ast.specs.declared.expr.Operator.{Operator}
-use Rattle.xf_ast.specs.declared.expr.Operator.TheVariants.{Or, And}
-use Rattle.xf_plain_values.specs.Bounded.{◌>>=◌, GivesBounded}
+use Rattle.xf_def_forest.specs.declared.content.Node.{Node}
+use Rattle.xf_def_syntax.specs.declared.expr.Expr.{Expr}
+use Rattle.xf_def_syntax.specs.declared.expr.Expr.TheVariants as expr
+use Rattle.xf_def_syntax.specs.declared.expr.Step.{Step}
+use Rattle.xf_def_syntax.specs.declared.expr.Operator.{Operator}
+use Rattle.xf_def_syntax.specs.declared.expr.Operator.TheVariants.{Or, And}
+use Rattle.xf_def_values.specs.Bounded.{◌>>=◌, GivesBounded}
 use Rattle.xf_funcs.specs.Called.{called}
-use Rattle.xf_lang.specs.declared.context.Context.{Context}
-use Rattle.xf_lang.specs.declared.fault.EvalFault.{EvalFault}
-use Rattle.xf_lang.specs.declared.fault.EvalFault.TheVariants.{Long, Memory}
-use Rattle.xf_lang.specs.declared.value.Value.{Value}
-use Rattle.xf_lang.specs.declared.value.Value.TheVariants.{Nodes, Number, Truth}
-use Rattle.xf_lang.specs.Given.{Given}
-use Rattle.xf_lang.specs.Setting.{Focus, Meaning, Setting, each, in_order, joined}
-use Rattle.xf_lang.specs.Conversions.{number_of, truth_of}
-use Rattle.xf_lang.specs.Functions as functions
-use Rattle.xf_lang.specs.Meaning.{focus_of, meaning, or_long, setting_of, walk_of}
-use Rattle.xf_lang.specs.Operators.{and_then, linked, or_else, signed, truly}
-use Rattle.xf_lang.specs.Steps.{begun_at, from_one}
-use Rattle.xf_lang.specs.Table.{function_at}
-use Rattle.xf_lang.proofs.Equations.{meaning-Call, meaning-Negated, walk-step}
+use Rattle.xf_def_xpath.specs.declared.context.Context.{Context}
+use Rattle.xf_def_xpath.specs.declared.fault.EvalFault.{EvalFault}
+use Rattle.xf_def_xpath.specs.declared.fault.EvalFault.TheVariants.{Long, Memory}
+use Rattle.xf_def_xpath.specs.declared.value.Value.{Value}
+use Rattle.xf_def_xpath.specs.declared.value.Value.TheVariants.{Nodes, Number, Truth}
+use Rattle.xf_def_xpath.specs.Given.{Given}
+use Rattle.xf_def_xpath.specs.Setting.{Focus, Meaning, Setting, each, in_order, joined}
+use Rattle.xf_def_xpath.specs.Conversions.{number_of, truth_of}
+use Rattle.xf_def_xpath.specs.Functions as functions
+use Rattle.xf_def_xpath.specs.Meaning.{focus_of, meaning, or_long, setting_of, walk_of}
+use Rattle.xf_def_xpath.specs.Operators.{and_then, linked, or_else, signed, truly}
+use Rattle.xf_def_xpath.specs.Steps.{begun_at, from_one}
+use Rattle.xf_def_xpath.specs.Table.{function_at}
+use Rattle.xf_def_xpath.proofs.Equations.{meaning-Call, meaning-Negated, walk-step}
 use Rattle.xf_eval.specs.declared.kinds.Kind.{Kind}
 use Rattle.xf_eval.specs.declared.kinds.Kind.TheVariants as kind
 use Rattle.xf_eval.specs.Kinds.{function_in}

@@ -7,17 +7,17 @@ use Rattle.std.specs.Ordering.{int_cmp}
 use Rattle.std.proofs.Math.Nat.{mul-div_cancel, mul-lt-mul_of_pos_right}
 use Rattle.xf_num.proofs.DigitLemmas.{scale_positive}
 use Rattle.xf_num.specs.Number.{in_range, scale, size_limit}
-use Rattle.xf_ast.specs.declared.expr.Expr.{Expr}
-use Rattle.xf_ast.specs.declared.expr.Expr.TheVariants as expr
-use Rattle.xf_doc.specs.declared.content.Node.{Node}
-use Rattle.xf_plain_values.specs.Conversions.{Decimal, whole}
-use Rattle.xf_lang.specs.declared.value.Value.TheVariants.{Number}
-use Rattle.xf_lang.specs.Binding.{as_list}
-use Rattle.xf_lang.specs.Setting.{Setting, ◌>>=◌}
-use Rattle.xf_lang.specs.Comparisons.{is_equal, is_same_number}
-use Rattle.xf_lang.specs.Meaning.{meaning}
-use Rattle.xf_lang.specs.Steps.{is_true_at, kept_by_all, kept_from, with_first}
-use Rattle.xf_lang.proofs.Equations.{meaning-Number}
+use Rattle.xf_def_syntax.specs.declared.expr.Expr.{Expr}
+use Rattle.xf_def_syntax.specs.declared.expr.Expr.TheVariants as expr
+use Rattle.xf_def_forest.specs.declared.content.Node.{Node}
+use Rattle.xf_def_values.specs.Conversions.{Decimal, whole}
+use Rattle.xf_def_xpath.specs.declared.value.Value.TheVariants.{Number}
+use Rattle.xf_def_xpath.specs.Binding.{as_list}
+use Rattle.xf_def_xpath.specs.Setting.{Setting, ◌>>=◌}
+use Rattle.xf_def_xpath.specs.Comparisons.{is_equal, is_same_number}
+use Rattle.xf_def_xpath.specs.Meaning.{meaning}
+use Rattle.xf_def_xpath.specs.Steps.{is_true_at, kept_by_all, kept_from, with_first}
+use Rattle.xf_def_xpath.proofs.Equations.{meaning-Number}
 use Rattle.xf_eval.specs.Live.{AllLive}
 use Rattle.xf_eval.specs.Places.{BeginsWith, IsPosition, Keeps, at_position, constant}
 use Rattle.xf_eval.proofs.Lives.{live-get, live-is, live-none, live-one}

@@ -2,18 +2,18 @@
 use Rattle.std.proofs.Common.{◌≡◌, ℕ, suc, ◌+◌, ◌<◌, ◌≤◌, Bool, true, false, List, [], ◌∷◌, ◌++◌, map, drop, length, get_or, Option, Some, None, option_map, refl, sym, ap, ◌∙◌, append_assoc}
 use Rattle.std.specs.Prelude.{fold}
 use Rattle.std.proofs.lemmas.List.{at_drop_more, at_drop_all}
-use Rattle.xf_doc.specs.declared.content.Node.{Node}
-use Rattle.xf_doc.specs.declared.node.NodeId.{NodeId}
-use Rattle.xf_plain_values.specs.Conversions.{Decimal}
-use Rattle.xf_ast.specs.declared.expr.Expr.{Expr}
-use Rattle.xf_ast.specs.declared.expr.Link.{Link}
-use Rattle.xf_ast.specs.declared.expr.Step.{Step}
-use Rattle.xf_lang.specs.declared.value.Value.{Value}
-use Rattle.xf_lang.specs.Setting.{Focus, Meaning, Setting, ◌>>=◌, each, joined}
-use Rattle.xf_lang.specs.Meaning.{meaning, meaning_of_link, walk_of}
-use Rattle.xf_lang.specs.Operators.{chained, linked}
-use Rattle.xf_lang.specs.Steps.{is_true_at, kept_by_all, kept_from, walked, with_first}
-use Rattle.xf_lang.proofs.Equations.{meaning-link}
+use Rattle.xf_def_forest.specs.declared.content.Node.{Node}
+use Rattle.xf_def_forest.specs.declared.node.NodeId.{NodeId}
+use Rattle.xf_def_values.specs.Conversions.{Decimal}
+use Rattle.xf_def_syntax.specs.declared.expr.Expr.{Expr}
+use Rattle.xf_def_syntax.specs.declared.expr.Link.{Link}
+use Rattle.xf_def_syntax.specs.declared.expr.Step.{Step}
+use Rattle.xf_def_xpath.specs.declared.value.Value.{Value}
+use Rattle.xf_def_xpath.specs.Setting.{Focus, Meaning, Setting, ◌>>=◌, each, joined}
+use Rattle.xf_def_xpath.specs.Meaning.{meaning, meaning_of_link, walk_of}
+use Rattle.xf_def_xpath.specs.Operators.{chained, linked}
+use Rattle.xf_def_xpath.specs.Steps.{is_true_at, kept_by_all, kept_from, walked, with_first}
+use Rattle.xf_def_xpath.proofs.Equations.{meaning-link}
 use Rattle.xf_eval.specs.declared.kinds.Kind.{Kind}
 use Rattle.xf_eval.specs.Texts.{combined, folded, number_at}
 use Rattle.xf_eval.proofs.Lists.{onto}

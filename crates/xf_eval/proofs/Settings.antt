@@ -1,21 +1,21 @@
 -- What asks nothing of what surrounds an expression is the same in every setting of a forest.
 use Rattle.std.proofs.Common.{◌≡◌, List, [], ◌∷◌, Some, option_map, refl, ap, ◌∙◌}
 use Rattle.xf_base.specs.Limits.{string_limit}
-use Rattle.xf_doc.specs.declared.content.Node.{Node}
-use Rattle.xf_ast.specs.declared.expr.Operator.{Operator}
-use Rattle.xf_ast.specs.declared.expr.Operator.TheVariants.{Or, And, Equal, NotEqual, Less, LessOrEqual, Greater, GreaterOrEqual, Add, Subtract, Multiply, Divide, Modulo, Union}
-use Rattle.xf_plain_values.specs.Bounded.{capped}
-use Rattle.xf_plain_values.specs.Conversions.{Decimal, number_in, text_in}
+use Rattle.xf_def_forest.specs.declared.content.Node.{Node}
+use Rattle.xf_def_syntax.specs.declared.expr.Operator.{Operator}
+use Rattle.xf_def_syntax.specs.declared.expr.Operator.TheVariants.{Or, And, Equal, NotEqual, Less, LessOrEqual, Greater, GreaterOrEqual, Add, Subtract, Multiply, Divide, Modulo, Union}
+use Rattle.xf_def_values.specs.Bounded.{capped}
+use Rattle.xf_def_values.specs.Conversions.{Decimal, number_in, text_in}
 use Rattle.xf_funcs.specs.Called.{called}
-use Rattle.xf_lang.specs.Meaning.{setting_of}
-use Rattle.xf_lang.specs.declared.context.Context.{Context}
-use Rattle.xf_lang.specs.declared.value.Value.{Value}
-use Rattle.xf_lang.specs.declared.value.Value.TheVariants.{Nodes, Text, Number, Truth}
-use Rattle.xf_lang.specs.Given.{Given}
-use Rattle.xf_lang.specs.Setting.{◌>>=◌}
-use Rattle.xf_lang.specs.Conversions.{number_of, plain_of, string_of}
-use Rattle.xf_lang.specs.Comparisons.{compared, holds, pairs_hold, plains_of, some_pair}
-use Rattle.xf_lang.specs.Operators.{computed}
+use Rattle.xf_def_xpath.specs.Meaning.{setting_of}
+use Rattle.xf_def_xpath.specs.declared.context.Context.{Context}
+use Rattle.xf_def_xpath.specs.declared.value.Value.{Value}
+use Rattle.xf_def_xpath.specs.declared.value.Value.TheVariants.{Nodes, Text, Number, Truth}
+use Rattle.xf_def_xpath.specs.Given.{Given}
+use Rattle.xf_def_xpath.specs.Setting.{◌>>=◌}
+use Rattle.xf_def_xpath.specs.Conversions.{number_of, plain_of, string_of}
+use Rattle.xf_def_xpath.specs.Comparisons.{compared, holds, pairs_hold, plains_of, some_pair}
+use Rattle.xf_def_xpath.specs.Operators.{computed}
 use Rattle.xf_eval.specs.Answered.{answered}
 use Rattle.xf_eval.specs.Worth.{bare_setting, setting_in}
 

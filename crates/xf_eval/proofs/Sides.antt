@@ -1,15 +1,15 @@
 -- Some pair of two sides, one of them a set.
 use Rattle.std.proofs.Common.{◌≡◌, ℕ, Bool, true, false, ◌||◌, List, [], ◌∷◌, map, Option, Some, None, option_map, refl, sym, ap, ◌∙◌}
 use Rattle.std.specs.List.{list_any}
-use Rattle.xf_doc.specs.declared.content.Node.{Node}
-use Rattle.xf_ast.specs.declared.expr.Operator.{Operator}
-use Rattle.xf_plain_values.specs.declared.plain.Plain.{Plain}
-use Rattle.xf_plain_values.specs.declared.plain.Plain.TheVariants as plain
-use Rattle.xf_lang.specs.declared.value.Value.{Value}
-use Rattle.xf_lang.specs.declared.value.Value.TheVariants.{Nodes, Text, Number, Truth}
-use Rattle.xf_lang.specs.Setting.{◌>>=◌}
-use Rattle.xf_lang.specs.Conversions.{strings_of, value_of_plain}
-use Rattle.xf_lang.specs.Comparisons.{compared, holds, pairs_hold, plains_of, some_pair}
+use Rattle.xf_def_forest.specs.declared.content.Node.{Node}
+use Rattle.xf_def_syntax.specs.declared.expr.Operator.{Operator}
+use Rattle.xf_def_values.specs.declared.plain.Plain.{Plain}
+use Rattle.xf_def_values.specs.declared.plain.Plain.TheVariants as plain
+use Rattle.xf_def_xpath.specs.declared.value.Value.{Value}
+use Rattle.xf_def_xpath.specs.declared.value.Value.TheVariants.{Nodes, Text, Number, Truth}
+use Rattle.xf_def_xpath.specs.Setting.{◌>>=◌}
+use Rattle.xf_def_xpath.specs.Conversions.{strings_of, value_of_plain}
+use Rattle.xf_def_xpath.specs.Comparisons.{compared, holds, pairs_hold, plains_of, some_pair}
 use Rattle.xf_eval.specs.declared.compare.Side.{Side}
 use Rattle.xf_eval.specs.declared.compare.Side.TheVariants as side
 use Rattle.xf_eval.specs.Sides.{holds_for_some, plain_on, some_beside}

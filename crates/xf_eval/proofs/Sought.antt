@@ -4,21 +4,21 @@ use Rattle.std.specs.Prelude.{filter}
 use Rattle.xf_name.specs.declared.axis.Axis.{Axis}
 use Rattle.xf_name.specs.declared.axis.Axis.TheVariants as axis
 use Rattle.xf_name.specs.declared.qname.QName.{QName}
-use Rattle.xf_ast.specs.declared.expr.Test.TheVariants.{Name, InSpace, AnyName}
-use Rattle.xf_doc.specs.declared.content.Name as node_name
-use Rattle.xf_ast.specs.declared.expr.Test.{Test}
-use Rattle.xf_doc.specs.declared.content.Content.{Content}
-use Rattle.xf_doc.specs.Forest.{content_at, name_in}
-use Rattle.xf_doc.specs.Visit.{visits}
-use Rattle.xf_doc.specs.Axis.{axis_of}
-use Rattle.xf_doc.specs.Shape.{erased}
-use Rattle.xf_doc.specs.Texts.{Keeping}
-use Rattle.xf_doc.specs.WellFormed.{AreTrees}
-use Rattle.xf_lang.specs.Steps.{reached}
-use Rattle.xf_lang.specs.Tests.{has_name, is_in_space, is_principal, meets}
-use Rattle.xf_slots.specs.declared.sought.Sought.{Sought}
-use Rattle.xf_slots.specs.declared.sought.Principal.{Principal}
-use Rattle.xf_slots.specs.Sought as tree
+use Rattle.xf_def_syntax.specs.declared.expr.Test.TheVariants.{Name, InSpace, AnyName}
+use Rattle.xf_def_forest.specs.declared.content.Name as node_name
+use Rattle.xf_def_syntax.specs.declared.expr.Test.{Test}
+use Rattle.xf_def_forest.specs.declared.content.Content.{Content}
+use Rattle.xf_def_forest.specs.Forest.{content_at, name_in}
+use Rattle.xf_def_forest.specs.Visit.{visits}
+use Rattle.xf_def_forest.specs.Axis.{axis_of}
+use Rattle.xf_def_forest.specs.Shape.{erased}
+use Rattle.xf_def_forest.specs.Texts.{Keeping}
+use Rattle.xf_def_forest.specs.WellFormed.{AreTrees}
+use Rattle.xf_def_xpath.specs.Steps.{reached}
+use Rattle.xf_def_xpath.specs.Tests.{has_name, is_in_space, is_principal, meets}
+use Rattle.xf_tree_contents.specs.declared.sought.Sought.{Sought}
+use Rattle.xf_tree_contents.specs.declared.sought.Principal.{Principal}
+use Rattle.xf_tree_contents.specs.Sought as tree
 use Rattle.xf_eval.specs.Met.{is_met, principal_in}
 use Rattle.xf_eval.proofs.Lives.{reached-met}
 

@@ -2,18 +2,18 @@
 use Rattle.std.proofs.Common.{◌≡◌, ℕ, ◌+◌, ◌<◌, true, false, List, [], ◌∷◌, map, drop, length, get_or, Option, Some, None, refl, sym, ap, ◌∙◌, subst}
 use Rattle.xf_name.specs.declared.axis.Axis.{Axis}
 use Rattle.xf_name.specs.declared.axis.Axis.TheVariants.{Child, Attribute, Self_, Parent, Ancestor, AncestorOrSelf, Descendant, DescendantOrSelf, FollowingSibling, PrecedingSibling}
-use Rattle.xf_ast.specs.declared.expr.Step.{Step}
-use Rattle.xf_doc.specs.declared.content.Node.{Node}
+use Rattle.xf_def_syntax.specs.declared.expr.Step.{Step}
+use Rattle.xf_def_forest.specs.declared.content.Node.{Node}
 use Rattle.xf_funcs.specs.Called.{called}
-use Rattle.xf_lang.specs.declared.context.Context.{Context}
-use Rattle.xf_lang.specs.Given.{Given}
+use Rattle.xf_def_xpath.specs.declared.context.Context.{Context}
+use Rattle.xf_def_xpath.specs.Given.{Given}
 use Rattle.xf_eval.specs.declared.ways.Way.{Way}
-use Rattle.xf_doc.specs.Texts.{Keeping}
-use Rattle.xf_doc.specs.WellFormed.{AreTrees}
-use Rattle.xf_lang.specs.Agree.{AreVisits}
-use Rattle.xf_lang.specs.Meaning.{meaning, setting_of, walk_of}
-use Rattle.xf_lang.specs.Setting.{Setting}
-use Rattle.xf_lang.specs.Steps.{begun_at, walked}
+use Rattle.xf_def_forest.specs.Texts.{Keeping}
+use Rattle.xf_def_forest.specs.WellFormed.{AreTrees}
+use Rattle.xf_def_xpath.specs.Agree.{AreVisits}
+use Rattle.xf_def_xpath.specs.Meaning.{meaning, setting_of, walk_of}
+use Rattle.xf_def_xpath.specs.Setting.{Setting}
+use Rattle.xf_def_xpath.specs.Steps.{begun_at, walked}
 use Rattle.xf_eval.specs.Taken.{taken}
 use Rattle.xf_eval.specs.Ways.{IsWay, is_child}
 use Rattle.xf_eval.specs.Worth.{seen}

@@ -1,14 +1,14 @@
 -- An operator whose sides are both evaluated, `or` and `and` among them where the left side did not decide (XPath 1.0, sections 3.3 to 3.5).
 use Rattle.std.specs.Prelude.{ℕ, Bool, true, false, not, Option, Some}
 use Rattle.xf_num.specs.Number.{sum, difference, product, quotient, remainder}
-use Rattle.xf_ast.specs.declared.expr.Operator.{Operator}
-use Rattle.xf_ast.specs.declared.expr.Operator.TheVariants.{Or, And, Add, Subtract, Multiply, Divide, Equal, NotEqual, Less, LessOrEqual, Greater, GreaterOrEqual}
-use Rattle.xf_lang.specs.declared.value.Value.{Value}
-use Rattle.xf_lang.specs.declared.value.Value.TheVariants.{Truth}
-use Rattle.xf_lang.specs.Setting.{Setting}
-use Rattle.xf_lang.specs.Conversions.{truth_of}
-use Rattle.xf_lang.specs.Operators.{combined}
-use Rattle.xf_plain_values.specs.Conversions.{Decimal}
+use Rattle.xf_def_syntax.specs.declared.expr.Operator.{Operator}
+use Rattle.xf_def_syntax.specs.declared.expr.Operator.TheVariants.{Or, And, Add, Subtract, Multiply, Divide, Equal, NotEqual, Less, LessOrEqual, Greater, GreaterOrEqual}
+use Rattle.xf_def_xpath.specs.declared.value.Value.{Value}
+use Rattle.xf_def_xpath.specs.declared.value.Value.TheVariants.{Truth}
+use Rattle.xf_def_xpath.specs.Setting.{Setting}
+use Rattle.xf_def_xpath.specs.Conversions.{truth_of}
+use Rattle.xf_def_xpath.specs.Operators.{combined}
+use Rattle.xf_def_values.specs.Conversions.{Decimal}
 
 -- the left side alone decides
 abbrev pub decides : Operator → Bool → Bool

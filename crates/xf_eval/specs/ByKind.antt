@@ -1,15 +1,15 @@
 -- The value of a call, as the evaluator tells the functions apart (XPath 1.0, section 4; XForms 1.1, section 7).
 use Rattle.std.specs.Prelude.{ℕ, zero, suc, [], ◌∷◌, List, Option, Some, option_map}
-use Rattle.xf_doc.specs.declared.content.Node.{Node}
-use Rattle.xf_lang.specs.declared.context.Context.{Context}
-use Rattle.xf_lang.specs.declared.value.Value.{Value}
-use Rattle.xf_lang.specs.declared.value.Value.TheVariants.{Nodes, Text, Number, Truth}
-use Rattle.xf_plain_values.specs.Conversions.{whole}
-use Rattle.xf_lang.specs.Given.{Given}
-use Rattle.xf_lang.specs.Setting.{Meaning, ◌>>=◌}
-use Rattle.xf_lang.specs.Conversions.{string_of}
-use Rattle.xf_lang.specs.Functions.{branched, plain_arguments}
-use Rattle.xf_lang.specs.Meaning.{focus_of, setting_of}
+use Rattle.xf_def_forest.specs.declared.content.Node.{Node}
+use Rattle.xf_def_xpath.specs.declared.context.Context.{Context}
+use Rattle.xf_def_xpath.specs.declared.value.Value.{Value}
+use Rattle.xf_def_xpath.specs.declared.value.Value.TheVariants.{Nodes, Text, Number, Truth}
+use Rattle.xf_def_values.specs.Conversions.{whole}
+use Rattle.xf_def_xpath.specs.Given.{Given}
+use Rattle.xf_def_xpath.specs.Setting.{Meaning, ◌>>=◌}
+use Rattle.xf_def_xpath.specs.Conversions.{string_of}
+use Rattle.xf_def_xpath.specs.Functions.{branched, plain_arguments}
+use Rattle.xf_def_xpath.specs.Meaning.{focus_of, setting_of}
 use Rattle.xf_funcs.specs.Called.{called}
 use Rattle.xf_eval.specs.declared.kinds.Kind.{Kind}
 use Rattle.xf_eval.specs.declared.kinds.Kind.TheVariants as kind

@@ -1,6 +1,6 @@
 -- The functions in the order of their table, as the evaluator tells them apart.
-use Rattle.xf_lang.specs.Table.{Function}
-use Rattle.xf_lang.specs.Table as of
+use Rattle.xf_def_xpath.specs.Table.{Function}
+use Rattle.xf_def_xpath.specs.Table as of
 use Rattle.xf_eval.specs.declared.kinds.Kind.{Kind}
 use Rattle.xf_eval.specs.declared.kinds.Kind.TheVariants as kind
 

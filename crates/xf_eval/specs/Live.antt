@@ -1,13 +1,13 @@
 -- Which nodes an expression may be asked with: those that stand in the forest (XPath 1.0, section 5).
 use Rattle.std.specs.Prelude.{ℕ, ◌≡◌, true, List, [], unwrap_or}
 use Rattle.std.specs.List.{list_all}
-use Rattle.xf_doc.specs.declared.content.Node.{Node}
-use Rattle.xf_doc.specs.Forest.{has_number}
-use Rattle.xf_lang.specs.declared.context.Context.{Context}
-use Rattle.xf_lang.specs.declared.value.Value.TheVariants.{Nodes}
-use Rattle.xf_lang.specs.Given.{Given, document_of, property_of}
-use Rattle.xf_lang.specs.Binding.{as_list}
-use Rattle.xf_lang.specs.Conversions.{nodes_of}
+use Rattle.xf_def_forest.specs.declared.content.Node.{Node}
+use Rattle.xf_def_forest.specs.Forest.{has_number}
+use Rattle.xf_def_xpath.specs.declared.context.Context.{Context}
+use Rattle.xf_def_xpath.specs.declared.value.Value.TheVariants.{Nodes}
+use Rattle.xf_def_xpath.specs.Given.{Given, document_of, property_of}
+use Rattle.xf_def_xpath.specs.Binding.{as_list}
+use Rattle.xf_def_xpath.specs.Conversions.{nodes_of}
 
 -- each of these nodes stands in the forest
 abbrev pub AllLive : List ℕ → List Node → Type 0

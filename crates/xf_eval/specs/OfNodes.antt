@@ -2,16 +2,16 @@
 use Rattle.std.specs.Prelude.{ℕ, Bool, true, false, List, [], ◌∷◌, Option, Some, None, option_map, option_and_then}
 use Rattle.xf_base.specs.Limits.{string_limit}
 use Rattle.xf_name.specs.Bindings.{Bindings}
-use Rattle.xf_doc.specs.declared.content.Node.{Node}
-use Rattle.xf_doc.specs.declared.content.Name.{Name}
-use Rattle.xf_doc.specs.declared.content.Content.{Content}
-use Rattle.xf_doc.specs.Forest.{content_at, name_in, written_in}
-use Rattle.xf_plain_values.specs.Bounded.{capped}
-use Rattle.xf_plain_values.specs.Conversions.{Decimal}
-use Rattle.xf_lang.specs.declared.value.Value.{Value}
-use Rattle.xf_lang.specs.declared.value.Value.TheVariants.{Text}
-use Rattle.xf_lang.specs.Setting.{Setting}
-use Rattle.xf_lang.specs.Functions.{average, count_of, extreme, filled_count, greater, lesser, local_part, namespace_of, of_numbers, total}
+use Rattle.xf_def_forest.specs.declared.content.Node.{Node}
+use Rattle.xf_def_forest.specs.declared.content.Name.{Name}
+use Rattle.xf_def_forest.specs.declared.content.Content.{Content}
+use Rattle.xf_def_forest.specs.Forest.{content_at, name_in, written_in}
+use Rattle.xf_def_values.specs.Bounded.{capped}
+use Rattle.xf_def_values.specs.Conversions.{Decimal}
+use Rattle.xf_def_xpath.specs.declared.value.Value.{Value}
+use Rattle.xf_def_xpath.specs.declared.value.Value.TheVariants.{Text}
+use Rattle.xf_def_xpath.specs.Setting.{Setting}
+use Rattle.xf_def_xpath.specs.Functions.{average, count_of, extreme, filled_count, greater, lesser, local_part, namespace_of, of_numbers, total}
 use Rattle.xf_eval.specs.declared.kinds.Kind.{Kind}
 use Rattle.xf_eval.specs.declared.kinds.Kind.TheVariants as kind
 

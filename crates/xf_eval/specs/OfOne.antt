@@ -3,16 +3,16 @@
 use Rattle.std.specs.Prelude.{ℕ, [], ◌∷◌, List, not, Option, Some, None, option_map, unwrap_or}
 use Rattle.std.specs.Prelude as std
 use Rattle.xf_base.specs.Limits.{string_limit}
-use Rattle.xf_doc.specs.declared.content.Node.{Node}
-use Rattle.xf_plain_values.specs.declared.plain.Plain.{Plain}
+use Rattle.xf_def_forest.specs.declared.content.Node.{Node}
+use Rattle.xf_def_values.specs.declared.plain.Plain.{Plain}
 use Rattle.xf_funcs.specs.Called.{called}
-use Rattle.xf_lang.specs.declared.value.Value.{Value}
-use Rattle.xf_lang.specs.declared.value.Value.TheVariants.{Nodes, Text, Number, Truth}
-use Rattle.xf_lang.specs.Given.{Given, beside, document_of, property_of}
-use Rattle.xf_lang.specs.Setting.{◌>>=◌}
-use Rattle.xf_lang.specs.Binding.{as_list}
-use Rattle.xf_lang.specs.Conversions.{nodes_of, number_of, plain_of, string_of, truth_of, value_of_plain}
-use Rattle.xf_lang.specs.Functions.{index_number}
+use Rattle.xf_def_xpath.specs.declared.value.Value.{Value}
+use Rattle.xf_def_xpath.specs.declared.value.Value.TheVariants.{Nodes, Text, Number, Truth}
+use Rattle.xf_def_xpath.specs.Given.{Given, beside, document_of, property_of}
+use Rattle.xf_def_xpath.specs.Setting.{◌>>=◌}
+use Rattle.xf_def_xpath.specs.Binding.{as_list}
+use Rattle.xf_def_xpath.specs.Conversions.{nodes_of, number_of, plain_of, string_of, truth_of, value_of_plain}
+use Rattle.xf_def_xpath.specs.Functions.{index_number}
 use Rattle.xf_eval.specs.declared.kinds.Kind.{Kind}
 use Rattle.xf_eval.specs.declared.kinds.Kind.TheVariants as kind
 use Rattle.xf_eval.specs.OfNodes.{name_worth, set_worth}

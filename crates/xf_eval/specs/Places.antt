@@ -1,12 +1,12 @@
 -- Predicates that are literal numbers: each keeps the node at its own position, counted from 1 (XPath 1.0, section 2.4).
 use Rattle.std.specs.Prelude.{ℕ, zero, suc, ◌≡◌, ◌==◌, List, ◌∷◌, drop, map, Option, Some, None, slice_get}
-use Rattle.xf_ast.specs.declared.expr.Expr.{Expr}
-use Rattle.xf_plain_values.specs.Conversions.{Decimal, whole}
-use Rattle.xf_lang.specs.declared.value.Value.TheVariants.{Number}
-use Rattle.xf_lang.specs.Setting.{Meaning, Setting}
-use Rattle.xf_lang.specs.Comparisons.{is_same_number}
-use Rattle.xf_lang.specs.Meaning.{meaning}
-use Rattle.xf_lang.specs.Steps.{kept_from}
+use Rattle.xf_def_syntax.specs.declared.expr.Expr.{Expr}
+use Rattle.xf_def_values.specs.Conversions.{Decimal, whole}
+use Rattle.xf_def_xpath.specs.declared.value.Value.TheVariants.{Number}
+use Rattle.xf_def_xpath.specs.Setting.{Meaning, Setting}
+use Rattle.xf_def_xpath.specs.Comparisons.{is_same_number}
+use Rattle.xf_def_xpath.specs.Meaning.{meaning}
+use Rattle.xf_def_xpath.specs.Steps.{kept_from}
 
 -- the predicate that is this number at each node
 abbrev pub constant : Decimal → Meaning

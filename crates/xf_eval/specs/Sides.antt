@@ -1,15 +1,15 @@
 -- One side of a comparison beside others (XPath 1.0, section 3.4): a plain value, its text lent or made.
 use Rattle.std.specs.Prelude.{ℕ, Bool, true, false, List, Option, Some}
 use Rattle.std.specs.List.{list_any}
-use Rattle.xf_ast.specs.declared.expr.Operator.{Operator}
-use Rattle.xf_plain_values.specs.declared.plain.Plain.{Plain}
-use Rattle.xf_plain_values.specs.declared.plain.Plain.TheVariants as plain
-use Rattle.xf_lang.specs.declared.value.Value.{Value}
-use Rattle.xf_lang.specs.declared.value.Value.TheVariants as value
-use Rattle.xf_lang.specs.Setting.{Setting, ◌>>=◌}
-use Rattle.xf_lang.specs.Conversions.{is_filled}
-use Rattle.xf_lang.specs.Comparisons.{holds, plains_of, some_pair}
-use Rattle.xf_lang.specs.Conversions.{value_of_plain}
+use Rattle.xf_def_syntax.specs.declared.expr.Operator.{Operator}
+use Rattle.xf_def_values.specs.declared.plain.Plain.{Plain}
+use Rattle.xf_def_values.specs.declared.plain.Plain.TheVariants as plain
+use Rattle.xf_def_xpath.specs.declared.value.Value.{Value}
+use Rattle.xf_def_xpath.specs.declared.value.Value.TheVariants as value
+use Rattle.xf_def_xpath.specs.Setting.{Setting, ◌>>=◌}
+use Rattle.xf_def_xpath.specs.Conversions.{is_filled}
+use Rattle.xf_def_xpath.specs.Comparisons.{holds, plains_of, some_pair}
+use Rattle.xf_def_xpath.specs.Conversions.{value_of_plain}
 use Rattle.xf_eval.specs.declared.compare.Operand.{Operand}
 use Rattle.xf_eval.specs.declared.compare.Operand.TheVariants as operand
 use Rattle.xf_eval.specs.declared.compare.Side.{Side}

@@ -1,12 +1,12 @@
 -- What is made of the string values of nodes (XPath 1.0, sections 4.4 and 5), where they are too long nothing.
 use Rattle.std.specs.Prelude.{ℕ, List, Option, option_map, fold}
-use Rattle.xf_doc.specs.declared.content.Node.{Node}
+use Rattle.xf_def_forest.specs.declared.content.Node.{Node}
 use Rattle.xf_num.specs.Number.{sum}
 use Rattle.xf_num.specs.Written.{read_at}
-use Rattle.xf_plain_values.specs.Conversions.{Decimal}
-use Rattle.xf_lang.specs.Setting.{each}
-use Rattle.xf_lang.specs.Conversions.{string_of_node}
-use Rattle.xf_lang.specs.Functions.{greater, lesser}
+use Rattle.xf_def_values.specs.Conversions.{Decimal}
+use Rattle.xf_def_xpath.specs.Setting.{each}
+use Rattle.xf_def_xpath.specs.Conversions.{string_of_node}
+use Rattle.xf_def_xpath.specs.Functions.{greater, lesser}
 use Rattle.xf_eval.specs.declared.kinds.Kind.{Kind}
 use Rattle.xf_eval.specs.declared.kinds.Kind.TheVariants as kind
 use Rattle.xf_eval.specs.declared.texts.StringValue.{StringValue}

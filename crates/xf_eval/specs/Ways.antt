@@ -2,11 +2,11 @@
 use Rattle.std.specs.Prelude.{ℕ, ◌≡◌, Bool, true, false, List, map}
 use Rattle.xf_name.specs.declared.axis.Axis.{Axis}
 use Rattle.xf_name.specs.declared.axis.Axis.TheVariants.{Child}
-use Rattle.xf_ast.specs.declared.expr.Step.{Step}
-use Rattle.xf_doc.specs.declared.content.Node.{Node}
-use Rattle.xf_lang.specs.Meaning.{meaning, walk_of}
-use Rattle.xf_lang.specs.Setting.{Setting}
-use Rattle.xf_lang.specs.Steps.{begun_at}
+use Rattle.xf_def_syntax.specs.declared.expr.Step.{Step}
+use Rattle.xf_def_forest.specs.declared.content.Node.{Node}
+use Rattle.xf_def_xpath.specs.Meaning.{meaning, walk_of}
+use Rattle.xf_def_xpath.specs.Setting.{Setting}
+use Rattle.xf_def_xpath.specs.Steps.{begun_at}
 use Rattle.xf_eval.specs.declared.ways.Way.{Way}
 use Rattle.xf_eval.specs.Taken.{taken}
 use Rattle.xf_eval.specs.Worth.{seen}

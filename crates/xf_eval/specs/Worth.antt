@@ -1,16 +1,16 @@
 -- The setting in which values of a forest are converted, with d decimals (XPath 1.0, sections 1 and 4).
 use Rattle.std.specs.Prelude.{ℕ, List, [], map, Option, Some, None, option_map}
 use Rattle.xf_base.specs.Limits.{string_limit}
-use Rattle.xf_doc.specs.declared.content.Node.{Node}
-use Rattle.xf_doc.specs.Visit.{Visit, visits}
-use Rattle.xf_doc.specs.Shape.{erased}
-use Rattle.xf_lang.specs.declared.value.Value.{Value}
-use Rattle.xf_lang.specs.Given.{Given}
-use Rattle.xf_lang.specs.declared.value.Value.TheVariants.{Number}
-use Rattle.xf_lang.specs.Setting.{Setting, ◌>>=◌, setting_over}
-use Rattle.xf_lang.specs.Operators.{signed}
-use Rattle.xf_lang.specs.Conversions.{number_of, string_of}
-use Rattle.xf_plain_values.specs.Conversions.{Decimal}
+use Rattle.xf_def_forest.specs.declared.content.Node.{Node}
+use Rattle.xf_def_forest.specs.Visit.{Visit, visits}
+use Rattle.xf_def_forest.specs.Shape.{erased}
+use Rattle.xf_def_xpath.specs.declared.value.Value.{Value}
+use Rattle.xf_def_xpath.specs.Given.{Given}
+use Rattle.xf_def_xpath.specs.declared.value.Value.TheVariants.{Number}
+use Rattle.xf_def_xpath.specs.Setting.{Setting, ◌>>=◌, setting_over}
+use Rattle.xf_def_xpath.specs.Operators.{signed}
+use Rattle.xf_def_xpath.specs.Conversions.{number_of, string_of}
+use Rattle.xf_def_values.specs.Conversions.{Decimal}
 use Rattle.xf_funcs.specs.Called.{called}
 
 -- a conversion asks no more of what surrounds an expression

@@ -1,17 +1,17 @@
 //! What surrounds an expression.
 
 ghost use Rattle.std.specs.Prelude.{◌≡◌, option_map};
-ghost use Rattle.xf_lang.specs.Given.{document_of, beside, property_of};
+ghost use Rattle.xf_def_xpath.specs.Given.{document_of, beside, property_of};
 
-use xf_doc::NodeId;
-use xf_lang::Value;
+use xf_def_forest::NodeId;
+use xf_def_xpath::Value;
 use xf_name::Prefixes;
 use xf_num::Decimals;
 
 /// What surrounds an expression (XForms 1.1, section 7): the instances of the form, the indexes of its repeats, the event that is
 /// handled, and the form's namespaces and decimals. Contracts see it as the record of these.
 pub trait Around {
-    ghost use Rattle.xf_lang.specs.Given.{Given};
+    ghost use Rattle.xf_def_xpath.specs.Given.{Given};
 
     ghost given: { Self → Given };
 

@@ -1,12 +1,12 @@
 //! Function calls (XPath 1.0, section 4; XForms 1.1, section 7).
 
 ghost use Rattle.std.specs.Prelude.{◌≡◌, [], IfOk, map, option_map};
-ghost use Rattle.xf_plain_values.specs.Bounded.{GivesBounded};
+ghost use Rattle.xf_def_values.specs.Bounded.{GivesBounded};
 ghost use Rattle.xf_funcs.specs.Called.{called};
-ghost use Rattle.xf_lang.specs.Conversions.{nodes_of, value_of_plain};
-ghost use Rattle.xf_lang.specs.Binding.{as_list};
-ghost use Rattle.xf_lang.specs.Functions.{branched, plain_arguments};
-ghost use Rattle.xf_lang.specs.Meaning.{focus_of, meaning, setting_of};
+ghost use Rattle.xf_def_xpath.specs.Conversions.{nodes_of, value_of_plain};
+ghost use Rattle.xf_def_xpath.specs.Binding.{as_list};
+ghost use Rattle.xf_def_xpath.specs.Functions.{branched, plain_arguments};
+ghost use Rattle.xf_def_xpath.specs.Meaning.{focus_of, meaning, setting_of};
 ghost use Rattle.xf_eval.specs.Live.{AllLive, AroundStands, IsReady};
 ghost use Rattle.xf_eval.specs.OfOne.{one_worth, own_worth, plain_worth};
 ghost use Rattle.xf_eval.specs.ByKind.{argument_or, by_kind};
@@ -19,12 +19,12 @@ use crate::kinds::Kind;
 use crate::of_nodes::{name_of, of_nodes};
 use crate::sets::{copied, listed, nodes_in, single};
 use std::alloc::Global;
-use xf_ast::Expr;
-use xf_doc::{NodeId, NodeList};
+use xf_def_forest::{NodeId, NodeList};
+use xf_def_syntax::Expr;
+use xf_def_values::Plain;
+use xf_def_xpath::{Context, EvalFault, Value};
 use xf_funcs::{FuncFault, call};
-use xf_lang::{Context, EvalFault, Value};
 use xf_num::{Decimals, Num};
-use xf_plain_values::Plain;
 use xf_tree::Forest;
 
 /// The value of a call of a function of this kind.

@@ -2,12 +2,12 @@
 
 ghost use Rattle.std.specs.Prelude.{◌≡◌, map, option_map, IfOk};
 ghost use Rattle.std.specs.List.{list_any};
-ghost use Rattle.xf_plain_values.specs.Bounded.{GivesBounded};
-ghost use Rattle.xf_plain_values.specs.Conversions.{number_in, truth_in};
-ghost use Rattle.xf_plain_values.specs.declared.plain.Plain.TheVariants as plain;
-ghost use Rattle.xf_lang.specs.declared.value.Value.TheVariants.{Nodes};
-ghost use Rattle.xf_lang.specs.Conversions.{nodes_of, strings_of, value_of_plain};
-ghost use Rattle.xf_lang.specs.Comparisons.{are_equal, compared, holds, order_in};
+ghost use Rattle.xf_def_values.specs.Bounded.{GivesBounded};
+ghost use Rattle.xf_def_values.specs.Conversions.{number_in, truth_in};
+ghost use Rattle.xf_def_values.specs.declared.plain.Plain.TheVariants as plain;
+ghost use Rattle.xf_def_xpath.specs.declared.value.Value.TheVariants.{Nodes};
+ghost use Rattle.xf_def_xpath.specs.Conversions.{nodes_of, strings_of, value_of_plain};
+ghost use Rattle.xf_def_xpath.specs.Comparisons.{are_equal, compared, holds, order_in};
 ghost use Rattle.xf_eval.specs.Live.{AllLive};
 ghost use Rattle.xf_eval.specs.Sides.{holds_for_some, plain_on, some_beside, value_in};
 ghost use Rattle.xf_eval.specs.Worth.{bare_setting, setting_in};
@@ -17,9 +17,9 @@ use crate::texts::{StringValue, value_of_node};
 use std::alloc::Global;
 use std::cmp::Ordering;
 use std::slice;
-use xf_ast::Operator;
-use xf_doc::NodeList;
-use xf_lang::{EvalFault, Value};
+use xf_def_forest::NodeList;
+use xf_def_syntax::Operator;
+use xf_def_xpath::{EvalFault, Value};
 use xf_num::{Decimals, Num};
 use xf_tree::Forest;
 

@@ -2,10 +2,10 @@
 
 ghost use Rattle.std.specs.Prelude.{◌≡◌, Some};
 ghost use Rattle.xf_base.specs.Limits.{string_limit};
-ghost use Rattle.xf_doc.specs.Forest.{IsLive};
-ghost use Rattle.xf_plain_values.specs.Bounded.{GivesBounded, capped};
-ghost use Rattle.xf_plain_values.specs.Conversions.{is_not_zero, number_of_truth, text_of_truth, whole};
-ghost use Rattle.xf_lang.specs.Conversions.{nodes_of, truth_of, string_of_node, first_string, plain_of};
+ghost use Rattle.xf_def_forest.specs.Forest.{IsLive};
+ghost use Rattle.xf_def_values.specs.Bounded.{GivesBounded, capped};
+ghost use Rattle.xf_def_values.specs.Conversions.{is_not_zero, number_of_truth, text_of_truth, whole};
+ghost use Rattle.xf_def_xpath.specs.Conversions.{nodes_of, truth_of, string_of_node, first_string, plain_of};
 ghost use Rattle.xf_eval.specs.Live.{AllLive};
 ghost use Rattle.xf_eval.specs.Worth.{bare_setting, text_worth, number_worth};
 
@@ -13,11 +13,11 @@ use crate::around::Around;
 use crate::texts::first_value;
 use std::alloc::Global;
 use xf_base::limits::STRING_LIMIT;
-use xf_doc::{NodeId, NodeList};
-use xf_lang::{EvalFault, Value};
+use xf_def_forest::{NodeId, NodeList};
+use xf_def_values::Plain;
+use xf_def_xpath::{EvalFault, Value};
 use xf_name::Word;
 use xf_num::{Decimals, Num};
-use xf_plain_values::Plain;
 use xf_tree::Forest;
 
 /// The value as a truth (XPath 1.0, section 4.3).

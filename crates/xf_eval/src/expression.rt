@@ -2,11 +2,11 @@
 
 ghost use Rattle.std.specs.Prelude.{◌≡◌, ◌+◌, IfOk};
 ghost use Rattle.xf_base.specs.Gives.{Gives};
-ghost use Rattle.xf_plain_values.specs.Bounded.{GivesBounded};
+ghost use Rattle.xf_def_values.specs.Bounded.{GivesBounded};
 ghost use Rattle.xf_funcs.specs.Called.{called};
-ghost use Rattle.xf_lang.specs.Conversions.{nodes_of};
-ghost use Rattle.xf_lang.specs.Operators.{signed};
-ghost use Rattle.xf_lang.specs.Meaning.{focus_of, meaning, setting_of, value_of};
+ghost use Rattle.xf_def_xpath.specs.Conversions.{nodes_of};
+ghost use Rattle.xf_def_xpath.specs.Operators.{signed};
+ghost use Rattle.xf_def_xpath.specs.Meaning.{focus_of, meaning, setting_of, value_of};
 ghost use Rattle.xf_eval.specs.Live.{AllLive, IsReady};
 ghost use Rattle.xf_eval.specs.Worth.{negated_worth};
 
@@ -21,8 +21,8 @@ use crate::sets::nodes_in;
 use crate::steps::{begun, kept_by_all, walked, walked_from};
 use std::alloc::Global;
 use std::sync::ledger::Ledger;
-use xf_ast::Expr;
-use xf_lang::{Context, EvalFault, Value};
+use xf_def_syntax::Expr;
+use xf_def_xpath::{Context, EvalFault, Value};
 use xf_num::{Num, Steps};
 use xf_tree::Forest;
 

@@ -2,12 +2,12 @@
 //! 4.2 to 4.4).
 
 ghost use Rattle.std.specs.Prelude.{◌≡◌, ◌∷◌, [], IfOk, map, option_map};
-ghost use Rattle.xf_doc.specs.Forest.{IsLive};
-ghost use Rattle.xf_plain_values.specs.Bounded.{GivesBounded};
+ghost use Rattle.xf_def_forest.specs.Forest.{IsLive};
+ghost use Rattle.xf_def_values.specs.Bounded.{GivesBounded};
 ghost use Rattle.xf_funcs.specs.Called.{called};
-ghost use Rattle.xf_lang.specs.Conversions.{nodes_of};
-ghost use Rattle.xf_lang.specs.Steps.{walked};
-ghost use Rattle.xf_lang.specs.Meaning.{focus_of, meaning, setting_of, walk_of};
+ghost use Rattle.xf_def_xpath.specs.Conversions.{nodes_of};
+ghost use Rattle.xf_def_xpath.specs.Steps.{walked};
+ghost use Rattle.xf_def_xpath.specs.Meaning.{focus_of, meaning, setting_of, walk_of};
 ghost use Rattle.xf_eval.specs.First.{converts, counted, first_node, leads, takes_plain};
 ghost use Rattle.xf_eval.specs.Live.{AllLive, IsReady};
 
@@ -19,9 +19,9 @@ use crate::sets::{listed, nodes_in, reached_at, single, started};
 use crate::steps::{begun, stepped, taken, walked, walked_from};
 use crate::ways::{way_of, way_of_one};
 use std::alloc::Global;
-use xf_ast::{Expr, Link, Operator, Step};
-use xf_doc::{NodeId, NodeList};
-use xf_lang::{Context, EvalFault, Value};
+use xf_def_forest::{NodeId, NodeList};
+use xf_def_syntax::{Expr, Link, Operator, Step};
+use xf_def_xpath::{Context, EvalFault, Value};
 use xf_tree::Forest;
 
 /// The value of an expression; where it is to be converted, its first node stands for a set, and no other one needs to be found.

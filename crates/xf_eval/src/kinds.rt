@@ -1,7 +1,7 @@
 //! The functions in the order of their table (XPath 1.0, section 4; XForms 1.1, section 7), by what their value needs.
 
 ghost use Rattle.std.specs.Prelude.{◌≡◌};
-ghost use Rattle.xf_lang.specs.Table.{function_at};
+ghost use Rattle.xf_def_xpath.specs.Table.{function_at};
 
 /// What the value of a function needs.
 #[derive(Clone, Copy, Debug, PartialEq, Eq)]

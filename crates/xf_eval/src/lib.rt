@@ -27,4 +27,4 @@ pub use node_test::meets;
 pub use places::{position_of, reached_placed};
 pub use sets::{append, nodes_in, reached, single};
 pub use steps::is_true_at;
-pub use xf_lang::{Context, EvalFault, Value};
+pub use xf_def_xpath::{Context, EvalFault, Value};

@@ -1,14 +1,14 @@
 //! Node tests (XPath 1.0, section 2.3).
 
 ghost use Rattle.std.specs.Prelude.{◌≡◌};
-ghost use Rattle.xf_lang.specs.Tests.{has_name, is_in_space, is_principal, meets};
-ghost use Rattle.xf_doc.specs.Forest.{name_in};
-ghost use Rattle.xf_doc.specs.declared.content.Content.{Content};
-ghost use Rattle.xf_slots.specs.Seen.{seen_content};
-ghost use Rattle.xf_slots.specs.Sought.{is_sought};
+ghost use Rattle.xf_def_xpath.specs.Tests.{has_name, is_in_space, is_principal, meets};
+ghost use Rattle.xf_def_forest.specs.Forest.{name_in};
+ghost use Rattle.xf_def_forest.specs.declared.content.Content.{Content};
+ghost use Rattle.xf_tree_contents.specs.Seen.{seen_content};
+ghost use Rattle.xf_tree_contents.specs.Sought.{is_sought};
 ghost use Rattle.xf_eval.specs.Met.{principal_in};
 
-use xf_ast::Test;
+use xf_def_syntax::Test;
 use xf_name::{Axis, QName};
 use xf_tree::{Principal, Seen, Sought};
 

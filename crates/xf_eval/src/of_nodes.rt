@@ -2,17 +2,17 @@
 
 ghost use Rattle.std.specs.Prelude.{◌≡◌, length, map, filter, option_and_then, option_map, Some};
 ghost use Rattle.xf_base.specs.Limits.{string_limit};
-ghost use Rattle.xf_doc.specs.Forest.{name_in, written};
-ghost use Rattle.xf_plain_values.specs.Bounded.{GivesBounded, capped};
-ghost use Rattle.xf_plain_values.specs.Conversions.{whole};
-ghost use Rattle.xf_lang.specs.Conversions.{is_filled, nodes_of, strings_of};
-ghost use Rattle.xf_lang.specs.Functions.{average, total, extreme};
-ghost use Rattle.xf_lang.specs.Setting.{each};
+ghost use Rattle.xf_def_forest.specs.Forest.{name_in, written};
+ghost use Rattle.xf_def_values.specs.Bounded.{GivesBounded, capped};
+ghost use Rattle.xf_def_values.specs.Conversions.{whole};
+ghost use Rattle.xf_def_xpath.specs.Conversions.{is_filled, nodes_of, strings_of};
+ghost use Rattle.xf_def_xpath.specs.Functions.{average, total, extreme};
+ghost use Rattle.xf_def_xpath.specs.Setting.{each};
 ghost use Rattle.xf_eval.specs.Live.{AllLive};
 ghost use Rattle.xf_eval.specs.OfNodes.{better, name_worth, set_worth};
 ghost use Rattle.xf_eval.specs.Texts.{combined, folded, number_at};
 ghost use Rattle.xf_eval.specs.Worth.{bare_setting, setting_in};
-ghost use Rattle.xf_slots.specs.Seen.{seen_content};
+ghost use Rattle.xf_tree_contents.specs.Seen.{seen_content};
 
 use crate::around::Around;
 use crate::convert::{kept_text, whole};
@@ -20,8 +20,8 @@ use crate::kinds::Kind;
 use crate::texts::{number_of_node, value_of_node};
 use std::alloc::Global;
 use std::cmp::Ordering;
-use xf_doc::{Name, NodeId, NodeList};
-use xf_lang::{EvalFault, Value};
+use xf_def_forest::{Name, NodeId, NodeList};
+use xf_def_xpath::{EvalFault, Value};
 use xf_name::Word;
 use xf_num::{Decimals, Num};
 use xf_tree::{Forest, Seen};

@@ -1,11 +1,11 @@
 //! Comparisons of what two expressions give (XPath 1.0, section 3.4): no value is made of a literal, a path or a place.
 
 ghost use Rattle.std.specs.Prelude.{◌≡◌, ◌∷◌, [], true, IfOk, IfSome};
-ghost use Rattle.xf_plain_values.specs.Bounded.{GivesBounded};
+ghost use Rattle.xf_def_values.specs.Bounded.{GivesBounded};
 ghost use Rattle.xf_funcs.specs.Called.{called};
-ghost use Rattle.xf_lang.specs.Conversions.{nodes_of};
-ghost use Rattle.xf_lang.specs.Meaning.{focus_of, meaning, meaning_of_link, setting_of};
-ghost use Rattle.xf_lang.specs.Operators.{chained};
+ghost use Rattle.xf_def_xpath.specs.Conversions.{nodes_of};
+ghost use Rattle.xf_def_xpath.specs.Meaning.{focus_of, meaning, meaning_of_link, setting_of};
+ghost use Rattle.xf_def_xpath.specs.Operators.{chained};
 ghost use Rattle.xf_eval.specs.Live.{AllLive, IsReady};
 ghost use Rattle.xf_eval.specs.Sides.{value_in};
 ghost use Rattle.xf_eval.specs.Answered.{compares};
@@ -18,8 +18,8 @@ use crate::kinds::{Kind, kind_of};
 use crate::steps::{begun, walked_from};
 use crate::texts::lent;
 use std::alloc::Global;
-use xf_ast::{Expr, Link, Operator};
-use xf_lang::{Context, EvalFault, Value};
+use xf_def_syntax::{Expr, Link, Operator};
+use xf_def_xpath::{Context, EvalFault, Value};
 use xf_tree::Forest;
 
 /// The one operator of a chain, where it has one alone, which compares.

@@ -1,11 +1,11 @@
 //! Operators (XPath 1.0, sections 3.3 to 3.5).
 
 ghost use Rattle.std.specs.Prelude.{◌≡◌, ◌++◌, IfOk, map};
-ghost use Rattle.xf_doc.specs.Order.{in_order};
-ghost use Rattle.xf_plain_values.specs.Bounded.{GivesBounded};
-ghost use Rattle.xf_lang.specs.Conversions.{nodes_of};
-ghost use Rattle.xf_lang.specs.Operators.{chained, linked};
-ghost use Rattle.xf_lang.specs.Meaning.{focus_of, meaning, meaning_of_link, setting_of};
+ghost use Rattle.xf_def_forest.specs.Order.{in_order};
+ghost use Rattle.xf_def_values.specs.Bounded.{GivesBounded};
+ghost use Rattle.xf_def_xpath.specs.Conversions.{nodes_of};
+ghost use Rattle.xf_def_xpath.specs.Operators.{chained, linked};
+ghost use Rattle.xf_def_xpath.specs.Meaning.{focus_of, meaning, meaning_of_link, setting_of};
 ghost use Rattle.xf_funcs.specs.Called.{called};
 ghost use Rattle.xf_eval.specs.Live.{AllLive, IsReady};
 ghost use Rattle.xf_eval.specs.Worth.{seen, setting_in};
@@ -17,9 +17,9 @@ use crate::convert::{number_of, truth_of};
 use crate::first::{asked_at, converts};
 use crate::sets::{append, nodes_in};
 use std::alloc::{AllocError, Global};
-use xf_ast::{Link, Operator};
-use xf_doc::NodeList;
-use xf_lang::{Context, EvalFault, Value};
+use xf_def_forest::NodeList;
+use xf_def_syntax::{Link, Operator};
+use xf_def_xpath::{Context, EvalFault, Value};
 use xf_num::{Decimals, Num};
 use xf_tree::Forest;
 

@@ -1,13 +1,13 @@
 //! Document order of what a step selects from one node (XPath 1.0, section 2.4).
 
 ghost use Rattle.std.specs.Prelude.{◌≡◌, false, IfOk};
-ghost use Rattle.xf_doc.specs.Axis.{is_reverse};
-ghost use Rattle.xf_doc.specs.Order.{in_order};
+ghost use Rattle.xf_def_forest.specs.Axis.{is_reverse};
+ghost use Rattle.xf_def_forest.specs.Order.{in_order};
 ghost use Rattle.xf_eval.specs.Live.{AllLive};
 ghost use Rattle.xf_eval.specs.Worth.{seen};
 
 use std::alloc::AllocError;
-use xf_doc::NodeList;
+use xf_def_forest::NodeList;
 use xf_name::Axis;
 use xf_tree::Forest;
 

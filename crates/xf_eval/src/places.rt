@@ -2,11 +2,11 @@
 
 ghost use Rattle.std.specs.Prelude.{◌≡◌, ◌<◌, ◌/◌, List, IfOk, IfSome, unsigned_abs};
 ghost use Rattle.xf_num.specs.Number.{scale, size_limit};
-ghost use Rattle.xf_plain_values.specs.Conversions.{whole};
-ghost use Rattle.xf_lang.specs.Comparisons.{is_same_number};
-ghost use Rattle.xf_doc.specs.declared.content.Node.{Node};
-ghost use Rattle.xf_doc.specs.Forest.{IsLive};
-ghost use Rattle.xf_lang.specs.Steps.{reached};
+ghost use Rattle.xf_def_values.specs.Conversions.{whole};
+ghost use Rattle.xf_def_xpath.specs.Comparisons.{is_same_number};
+ghost use Rattle.xf_def_forest.specs.declared.content.Node.{Node};
+ghost use Rattle.xf_def_forest.specs.Forest.{IsLive};
+ghost use Rattle.xf_def_xpath.specs.Steps.{reached};
 ghost use Rattle.xf_eval.specs.Live.{AllLive};
 ghost use Rattle.xf_eval.specs.Places.{BeginsWith, IsPosition, Keeps};
 ghost use Rattle.xf_eval.specs.Worth.{seen};
@@ -15,8 +15,8 @@ use crate::convert::whole;
 use crate::sets::{listed, reached_at};
 use std::alloc::{AllocError, Global};
 use std::cmp::Ordering;
-use xf_ast::{Expr, Test};
-use xf_doc::{NodeId, NodeList};
+use xf_def_forest::{NodeId, NodeList};
+use xf_def_syntax::{Expr, Test};
 use xf_name::Axis;
 use xf_num::{Decimals, Num};
 use xf_tree::Forest;

@@ -2,20 +2,20 @@
 
 ghost use Rattle.std.specs.Prelude.{◌≡◌, [], ◌∷◌, ◌++◌, true, false, option_map, slice_get, IfOk, OnOk};
 ghost use Rattle.xf_name.specs.declared.axis.Axis.TheVariants.{DescendantOrSelf};
-ghost use Rattle.xf_ast.specs.declared.expr.Test.TheVariants.{Node};
+ghost use Rattle.xf_def_syntax.specs.declared.expr.Test.TheVariants.{Node};
 ghost use Rattle.std.specs.List.{flat_map};
-ghost use Rattle.xf_doc.specs.Forest.{IsLive};
-ghost use Rattle.xf_lang.specs.Binding.{as_list};
-ghost use Rattle.xf_lang.specs.Conversions.{nodes_of};
-ghost use Rattle.xf_lang.specs.Steps.{reached, begun_at};
+ghost use Rattle.xf_def_forest.specs.Forest.{IsLive};
+ghost use Rattle.xf_def_xpath.specs.Binding.{as_list};
+ghost use Rattle.xf_def_xpath.specs.Conversions.{nodes_of};
+ghost use Rattle.xf_def_xpath.specs.Steps.{reached, begun_at};
 ghost use Rattle.xf_eval.specs.Live.{AllLive};
 ghost use Rattle.xf_eval.specs.Worth.{seen};
 
 use crate::node_test::sought_of;
 use std::alloc::{AllocError, Global};
-use xf_ast::Test;
-use xf_doc::{NodeId, NodeList};
-use xf_lang::Value;
+use xf_def_forest::{NodeId, NodeList};
+use xf_def_syntax::Test;
+use xf_def_xpath::Value;
 use xf_name::{Axis, Word};
 use xf_tree::Forest;
 

@@ -1,12 +1,12 @@
 //! Location paths: steps and predicates (XPath 1.0, sections 2 to 2.5).
 
 ghost use Rattle.std.specs.Prelude.{◌≡◌, ◌∷◌, [], ◌++◌, IfOk, drop, length, map, option_map};
-ghost use Rattle.xf_doc.specs.Forest.{IsLive};
-ghost use Rattle.xf_plain_values.specs.Bounded.{GivesBounded};
-ghost use Rattle.xf_plain_values.specs.Conversions.{whole};
+ghost use Rattle.xf_def_forest.specs.Forest.{IsLive};
+ghost use Rattle.xf_def_values.specs.Bounded.{GivesBounded};
+ghost use Rattle.xf_def_values.specs.Conversions.{whole};
 ghost use Rattle.xf_funcs.specs.Called.{called};
-ghost use Rattle.xf_lang.specs.Steps.{begun, from_one, is_true_at, kept_from, kept_by_all, walked};
-ghost use Rattle.xf_lang.specs.Meaning.{focus_of, meaning, setting_of, walk_of};
+ghost use Rattle.xf_def_xpath.specs.Steps.{begun, from_one, is_true_at, kept_from, kept_by_all, walked};
+ghost use Rattle.xf_def_xpath.specs.Meaning.{focus_of, meaning, setting_of, walk_of};
 ghost use Rattle.xf_eval.specs.Live.{AllLive, IsReady};
 ghost use Rattle.xf_eval.specs.Worth.{bare_setting};
 ghost use Rattle.xf_eval.specs.Taken.{taken};
@@ -20,9 +20,9 @@ use crate::sets::{append, down_from, reach_all, reached, reaches_any, single, st
 use crate::ways::{way_of, way_of_one};
 use std::alloc::Global;
 use std::cmp::Ordering;
-use xf_ast::{Expr, Start, Step};
-use xf_doc::{NodeId, NodeList};
-use xf_lang::{Context, EvalFault, Value};
+use xf_def_forest::{NodeId, NodeList};
+use xf_def_syntax::{Expr, Start, Step};
+use xf_def_xpath::{Context, EvalFault, Value};
 use xf_name::Axis;
 use xf_num::Decimals;
 use xf_tree::Forest;

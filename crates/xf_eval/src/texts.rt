@@ -2,17 +2,17 @@
 
 ghost use Rattle.std.specs.Prelude.{◌≡◌, Some};
 ghost use Rattle.xf_base.specs.Limits.{string_limit};
-ghost use Rattle.xf_doc.specs.Forest.{IsLive};
-ghost use Rattle.xf_plain_values.specs.Bounded.{GivesBounded, capped};
-ghost use Rattle.xf_lang.specs.Conversions.{first_string, string_of_node};
+ghost use Rattle.xf_def_forest.specs.Forest.{IsLive};
+ghost use Rattle.xf_def_values.specs.Bounded.{GivesBounded, capped};
+ghost use Rattle.xf_def_xpath.specs.Conversions.{first_string, string_of_node};
 ghost use Rattle.xf_eval.specs.Live.{AllLive};
 ghost use Rattle.xf_eval.specs.Worth.{bare_setting};
 ghost use Rattle.xf_eval.specs.Texts.{characters, number_at};
 
 use std::alloc::Global;
 use xf_base::limits::STRING_LIMIT;
-use xf_doc::{NodeId, NodeList};
-use xf_lang::EvalFault;
+use xf_def_forest::{NodeId, NodeList};
+use xf_def_xpath::EvalFault;
 use xf_name::Word;
 use xf_num::{Decimals, Num};
 use xf_tree::Forest;

@@ -3,8 +3,8 @@
 ghost use Rattle.std.specs.Prelude.{◌≡◌, ◌∷◌, []};
 ghost use Rattle.xf_eval.specs.Ways.{IsWay, is_child};
 
-use xf_ast::Step;
-use xf_doc::{NodeId, NodeList};
+use xf_def_forest::{NodeId, NodeList};
+use xf_def_syntax::Step;
 use xf_name::Axis;
 use xf_tree::Forest;
 

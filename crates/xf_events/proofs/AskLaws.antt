@@ -1,10 +1,10 @@
 -- What an insert asks for, by the nodes of a set: the last one of it, and what is told as the place.
 use Rattle.std.proofs.Common.{◌≡◌, ◌-◌, ℕ, ℤ, zero, suc, List, [], ◌∷◌, length, Option, Some, refl, ap}
 use Rattle.std.specs.Prelude.{slice_get}
-use Rattle.xf_lang.specs.Binding.{as_list}
-use Rattle.xf_lang.specs.Setting.{Focus}
-use Rattle.xf_model.specs.Places.{held}
-use Rattle.xf_form_machine.specs.Insert as ins
+use Rattle.xf_def_xpath.specs.Binding.{as_list}
+use Rattle.xf_def_xpath.specs.Setting.{Focus}
+use Rattle.xf_def_model.specs.Places.{held}
+use Rattle.xf_def_machine.specs.Insert as ins
 
 pub last-is : (ns : List ℕ) (n k : ℕ) → length ns ≡ suc k → slice_get ns k ≡ Some n → ins.last_one ns ≡ n ∷ []
 last-is [] n k h e = cc h

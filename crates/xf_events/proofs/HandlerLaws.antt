@@ -4,15 +4,15 @@ use Rattle.std.specs.Prelude.{◌||◌, filter, reverse, if◌then◌else◌}
 use Rattle.std.specs.List.{flat_map, list_any}
 use Rattle.std.proofs.lemmas.List.{append-nil, map-append, reverse-append, take_all}
 use Rattle.std.proofs.lemmas.List.Elements.{filter-append}
-use Rattle.xf_ast.specs.declared.action.Handler.{Handler}
-use Rattle.xf_ast.specs.declared.action.Phase.{Phase}
-use Rattle.xf_ast.specs.declared.action.Phase.TheVariants.{Capture, Default}
-use Rattle.xf_ast.specs.declared.element.Element.{Element}
-use Rattle.xf_ast.specs.declared.form.Tables.{Tables}
-use Rattle.xf_ast.specs.Ordered.{numbered_from}
-use Rattle.xf_ui.specs.Calls.{Event, handlers_of, heard_at, hears, reached, stops}
-use Rattle.xf_ui.specs.Elements.{ancestors, path_to}
-use Rattle.xf_ui.specs.Interface.{Interface, element_of, sort_of}
+use Rattle.xf_def_syntax.specs.declared.action.Handler.{Handler}
+use Rattle.xf_def_syntax.specs.declared.action.Phase.{Phase}
+use Rattle.xf_def_syntax.specs.declared.action.Phase.TheVariants.{Capture, Default}
+use Rattle.xf_def_syntax.specs.declared.element.Element.{Element}
+use Rattle.xf_def_syntax.specs.declared.form.Tables.{Tables}
+use Rattle.xf_def_syntax.specs.Ordered.{numbered_from}
+use Rattle.xf_def_ui.specs.Calls.{Event, handlers_of, heard_at, hears, reached, stops}
+use Rattle.xf_def_ui.specs.Elements.{ancestors, path_to}
+use Rattle.xf_def_ui.specs.Interface.{Interface, element_of, sort_of}
 use Rattle.xf_events.specs.declared.handlers.Stage.{Stage}
 use Rattle.xf_events.specs.declared.handlers.Stop.{Stop}
 use Rattle.xf_events.specs.Handlers.{Adds, IsWay, Reaches, cancels, heard_from, heard_in, none_yet, one_where, stages_at, stops_at}

@@ -5,14 +5,14 @@ use Rattle.std.specs.List.{flat_map}
 use Rattle.std.proofs.lemmas.Grind.{flat_map-append}
 use Rattle.std.proofs.lemmas.List.{append-nil, drop_more}
 use Rattle.std.proofs.lemmas.List.Elements.{filter-append}
-use Rattle.xf_ast.specs.declared.element.Part.{Part}
-use Rattle.xf_ast.specs.declared.element.Part.TheVariants as part
-use Rattle.xf_ast.specs.Ordered.{child_in}
-use Rattle.xf_lang.specs.Binding.{as_list}
-use Rattle.xf_ui.specs.Elements.{element_at, is_action, looked_through, through}
-use Rattle.xf_ui.specs.Interface.{Interface, Sort, host, other, group, switch, one_case, repeated, field, output, select, item, itemset, choices, label, item_value, inline, action}
-use Rattle.xf_ui.specs.Labels.{piece_of, pieces, pieces_in, words_in}
-use Rattle.xf_elements.specs.Parts.{host_parts, is_host, own_text}
+use Rattle.xf_def_syntax.specs.declared.element.Part.{Part}
+use Rattle.xf_def_syntax.specs.declared.element.Part.TheVariants as part
+use Rattle.xf_def_syntax.specs.Ordered.{child_in}
+use Rattle.xf_def_xpath.specs.Binding.{as_list}
+use Rattle.xf_def_ui.specs.Elements.{element_at, is_action, looked_through, through}
+use Rattle.xf_def_ui.specs.Interface.{Interface, Sort, host, other, group, switch, one_case, repeated, field, output, select, item, itemset, choices, label, item_value, inline, action}
+use Rattle.xf_def_ui.specs.Labels.{piece_of, pieces, pieces_in, words_in}
+use Rattle.xf_form_elements.specs.Parts.{host_parts, is_host, own_text}
 use Rattle.xf_events.specs.Inner.{actions_through, own_action, words_through}
 
 -- what stood before, and what one part adds to it

@@ -2,9 +2,9 @@
 use Rattle.std.proofs.Common.{◌≡◌, ◌+◌, List, [], ◌∷◌, ◌++◌, length, ap, sym, ◌∙◌}
 use Rattle.std.proofs.lemmas.List.{append-nil}
 use Rattle.std.proofs.lemmas.List.Sums.{sum_by_push}
-use Rattle.xf_form_machine.specs.declared.note.Note.{Note}
-use Rattle.xf_form_machine.specs.NoteLines.{note_line, notes_size}
-use Rattle.xf_form_machine.specs.Replies.{note_lines}
+use Rattle.xf_def_machine.specs.declared.note.Note.{Note}
+use Rattle.xf_def_machine.specs.NoteLines.{note_line, notes_size}
+use Rattle.xf_def_machine.specs.Replies.{note_lines}
 
 pub size-more : (notes : List Note) (note : Note) → notes_size (notes ++ note ∷ []) ≡ notes_size notes + length (note_lines (note ∷ []))
 size-more notes note = sum_by_push (λ n. length (note_line n)) notes note ∙ ap (λ l. notes_size notes + length l) (sym (append-nil (note_line note)))

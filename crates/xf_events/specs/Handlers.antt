@@ -1,13 +1,13 @@
 -- The handlers that an event calls, found one after the other (DOM Level 2 Events, section 1.2).
 use Rattle.std.specs.Prelude.{ℕ, ◌≡◌, Bool, false, ◌||◌, List, [], ◌∷◌, ◌++◌, map, filter, if◌then◌else◌}
 use Rattle.std.specs.List.{list_any, flat_map}
-use Rattle.xf_ast.specs.declared.action.Handler.{Handler}
-use Rattle.xf_ast.specs.declared.action.Phase.{Phase}
-use Rattle.xf_ast.specs.declared.element.Element.{Element}
-use Rattle.xf_ast.specs.declared.form.Tables.{Tables}
-use Rattle.xf_ast.specs.Ordered.{numbered_from}
-use Rattle.xf_ui.specs.Calls.{Event, handlers_of, heard_at, hears, stages, stops}
-use Rattle.xf_ui.specs.Interface.{Interface, Sort, element_of}
+use Rattle.xf_def_syntax.specs.declared.action.Handler.{Handler}
+use Rattle.xf_def_syntax.specs.declared.action.Phase.{Phase}
+use Rattle.xf_def_syntax.specs.declared.element.Element.{Element}
+use Rattle.xf_def_syntax.specs.declared.form.Tables.{Tables}
+use Rattle.xf_def_syntax.specs.Ordered.{numbered_from}
+use Rattle.xf_def_ui.specs.Calls.{Event, handlers_of, heard_at, hears, stages, stops}
+use Rattle.xf_def_ui.specs.Interface.{Interface, Sort, element_of}
 use Rattle.xf_events.specs.declared.handlers.Stage.{Stage}
 use Rattle.xf_events.specs.declared.handlers.Stop.{Stop}
 

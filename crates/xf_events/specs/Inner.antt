@@ -2,12 +2,12 @@
 -- and 10.2).
 use Rattle.std.specs.Prelude.{ℕ, List, Option, Some, None, filter, if◌then◌else◌}
 use Rattle.std.specs.List.{flat_map}
-use Rattle.xf_ast.specs.declared.element.Part.{Part}
-use Rattle.xf_ast.specs.declared.element.Part.TheVariants as part
-use Rattle.xf_ast.specs.Ordered.{child_in}
-use Rattle.xf_ui.specs.Elements.{element_at, is_action, looked_through}
-use Rattle.xf_ui.specs.Interface.{Interface}
-use Rattle.xf_ui.specs.Labels.{pieces, words_in}
+use Rattle.xf_def_syntax.specs.declared.element.Part.{Part}
+use Rattle.xf_def_syntax.specs.declared.element.Part.TheVariants as part
+use Rattle.xf_def_syntax.specs.Ordered.{child_in}
+use Rattle.xf_def_ui.specs.Elements.{element_at, is_action, looked_through}
+use Rattle.xf_def_ui.specs.Interface.{Interface}
+use Rattle.xf_def_ui.specs.Labels.{pieces, words_in}
 
 -- the part as an action
 abbrev pub own_action : Interface → Part → Option ℕ

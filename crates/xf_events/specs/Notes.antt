@@ -1,8 +1,8 @@
 -- A note that is added: the lines of all notes of one event have a limit.
 use Rattle.std.specs.Prelude.{ℕ, ◌≡◌, ◌^◌, true, false, List, [], ◌∷◌, ◌++◌, length, nat_lt, Result, Ok, Err}
-use Rattle.xf_form_machine.specs.declared.note.Note.{Note}
-use Rattle.xf_form_machine.specs.NoteLines.{notes_size}
-use Rattle.xf_form_machine.specs.Replies.{note_lines}
+use Rattle.xf_def_machine.specs.declared.note.Note.{Note}
+use Rattle.xf_def_machine.specs.NoteLines.{notes_size}
+use Rattle.xf_def_machine.specs.Replies.{note_lines}
 use Rattle.xf_events.specs.declared.notes.NoteFault.{NoteFault}
 use Rattle.xf_events.specs.declared.notes.NoteFault.TheVariants.{Limit, Memory}
 

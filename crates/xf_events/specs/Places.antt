@@ -1,8 +1,8 @@
 -- The instances of a model, by their places.
 use Rattle.std.specs.Prelude.{ℕ, List, map, ◌==◌}
 use Rattle.std.specs.Prelude.{filter}
-use Rattle.xf_ast.specs.declared.form.Instance.{Instance}
-use Rattle.xf_ast.specs.Ordered.{numbered_from}
+use Rattle.xf_def_syntax.specs.declared.form.Instance.{Instance}
+use Rattle.xf_def_syntax.specs.Ordered.{numbered_from}
 
 -- of instances of which the first has this place
 abbrev pub places_of : ℕ → ℕ → List Instance → List ℕ

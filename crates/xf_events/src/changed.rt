@@ -1,10 +1,10 @@
 //! What an insert and a delete tell an instance (XForms 1.1, sections 4.4.5 and 4.4.6).
 
 ghost use Rattle.std.specs.Prelude.{◌≡◌, ◌++◌, ◌∷◌, [], true, IfOk, OnOk, codes, map};
-ghost use Rattle.xf_doc.specs.Visit.{visits};
-ghost use Rattle.xf_plain_values.specs.Conversions.{whole};
-ghost use Rattle.xf_form_machine.specs.Delete.{location_of};
-ghost use Rattle.xf_form_machine.specs.Events as events;
+ghost use Rattle.xf_def_forest.specs.Visit.{visits};
+ghost use Rattle.xf_def_values.specs.Conversions.{whole};
+ghost use Rattle.xf_def_machine.specs.Delete.{location_of};
+ghost use Rattle.xf_def_machine.specs.Events as events;
 ghost use Rattle.xf_actions.specs.Seen.{fired_of, place_of, told_of};
 ghost use Rattle.xf_events.specs.Changed.{deleted_told, inserted_told};
 
@@ -12,10 +12,10 @@ use crate::telling::made;
 use std::alloc::{AllocError, Global};
 use xf_actions::{Fired, Inserting, Place, Property, PropertyList};
 use xf_base::Items;
-use xf_doc::NodeList;
+use xf_def_forest::NodeList;
+use xf_def_xpath::Value;
 use xf_eval::append;
 use xf_insert::held;
-use xf_lang::Value;
 use xf_name::Word;
 use xf_num::{Decimals, Num};
 use xf_tree::Forest;

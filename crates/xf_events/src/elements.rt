@@ -1,15 +1,15 @@
 //! Elements by their numbers.
 
 ghost use Rattle.std.specs.Prelude.{◌≡◌, ◌++◌, get_or, IfOk, OnOk};
-ghost use Rattle.xf_form_machine.specs.Choose.{switch_number as number_of_switch};
-ghost use Rattle.xf_ui.specs.Elements.{element_at};
-ghost use Rattle.xf_ui.specs.Interface.{interface_of, sort_of};
+ghost use Rattle.xf_def_machine.specs.Choose.{switch_number as number_of_switch};
+ghost use Rattle.xf_def_ui.specs.Elements.{element_at};
+ghost use Rattle.xf_def_ui.specs.Interface.{interface_of, sort_of};
 ghost use Rattle.xf_events.specs.Places.{places_of};
 
 use std::alloc::{AllocError, Global};
-use xf_ast::{Control, ElementList, Form, Instance, Kind};
 use xf_base::Items;
-use xf_elements::element_in;
+use xf_def_syntax::{Control, ElementList, Form, Instance, Kind};
+use xf_form_elements::element_in;
 
 /// The id of an element: empty where it has none.
 pub fn id_of(form: &Form, element: u32) -> &str

@@ -1,18 +1,18 @@
 //! The handlers that an event calls (DOM Level 2 Events, section 1.2; XML Events, section 3).
 
 ghost use Rattle.std.specs.Prelude.{◌≡◌, ◌++◌, ◌||◌, reverse, IfOk, OnOk};
-ghost use Rattle.xf_ast.specs.declared.form.Tables.{Tables};
-ghost use Rattle.xf_ui.specs.Calls.{calls as called_by, hears, is_element, is_phase, may_have, reached};
-ghost use Rattle.xf_ui.specs.Interface.{interface_of, sort_of};
+ghost use Rattle.xf_def_syntax.specs.declared.form.Tables.{Tables};
+ghost use Rattle.xf_def_ui.specs.Calls.{calls as called_by, hears, is_element, is_phase, may_have, reached};
+ghost use Rattle.xf_def_ui.specs.Interface.{interface_of, sort_of};
 ghost use Rattle.xf_actions.specs.Seen.{fired_of};
 ghost use Rattle.xf_events.specs.Handlers as handlers;
 
 use std::alloc::{AllocError, Global};
 use xf_actions::Fired;
-use xf_ast::{Element, ElementList, Form, Handler, Kind, Phase};
 use xf_base::Items;
-use xf_elements::ancestors;
-use xf_ui::CallList;
+use xf_def_syntax::{Element, ElementList, Form, Handler, Kind, Phase};
+use xf_def_ui::CallList;
+use xf_form_elements::ancestors;
 
 /// Handlers that are called, in order.
 #[derive(Drop)]

@@ -1,16 +1,16 @@
 //! What stands in an element: the words, and the actions. Host elements are looked through.
 
 ghost use Rattle.std.specs.Prelude.{◌≡◌, ◌++◌, IfOk, OnOk};
-ghost use Rattle.xf_lang.specs.Binding.{as_list};
-ghost use Rattle.xf_ui.specs.Elements.{actions_in, element_at, is_action};
-ghost use Rattle.xf_ui.specs.Interface.{interface_of, sort_of};
-ghost use Rattle.xf_ui.specs.Labels.{words_of};
+ghost use Rattle.xf_def_xpath.specs.Binding.{as_list};
+ghost use Rattle.xf_def_ui.specs.Elements.{actions_in, element_at, is_action};
+ghost use Rattle.xf_def_ui.specs.Interface.{interface_of, sort_of};
+ghost use Rattle.xf_def_ui.specs.Labels.{words_of};
 ghost use Rattle.xf_events.specs.Inner as inner;
 
 use std::alloc::{AllocError, Global};
-use xf_ast::{Element, ElementList, Form, Kind, Part};
 use xf_base::Items;
-use xf_elements::{element_in, host_parts, own_text, parts_at};
+use xf_def_syntax::{Element, ElementList, Form, Kind, Part};
+use xf_form_elements::{element_in, host_parts, own_text, parts_at};
 use xf_name::Word;
 
 /// The text that stands in an element.

@@ -7,7 +7,7 @@ use std::alloc::{AllocError, AllocFailed, Global};
 use std::marker::Model;
 use xf_base::Items;
 use xf_base::limits::NOTE_LIMIT;
-use xf_form_machine::{Note, Notes};
+use xf_def_machine::{Note, Notes};
 use xf_report::push_notes;
 
 /// Why a note is not added.
@@ -49,8 +49,8 @@ pub struct NoteList {
 
 impl Model for NoteList {
     ghost use Rattle.std.specs.Prelude.{◌≡◌, ◌≤◌, ◌^◌, List};
-    ghost use Rattle.xf_form_machine.specs.declared.note.Note.{Note};
-    ghost use Rattle.xf_form_machine.specs.NoteLines.{notes_size};
+    ghost use Rattle.xf_def_machine.specs.declared.note.Note.{Note};
+    ghost use Rattle.xf_def_machine.specs.NoteLines.{notes_size};
 
     ghost Value = { List Note };
 

@@ -3,14 +3,14 @@
 ghost use Rattle.std.specs.Prelude.{◌≡◌, true, [], IfOk};
 ghost use Rattle.std.specs.List.{list_any};
 ghost use Rattle.std.specs.Str.{bytes_eq};
-ghost use Rattle.xf_form_machine.specs.Events as events;
+ghost use Rattle.xf_def_machine.specs.Events as events;
 ghost use Rattle.xf_actions.specs.Seen.{fired_of, told_of};
 ghost use Rattle.xf_events.specs.Telling.{texts};
 
 use std::alloc::{AllocError, Global};
 use xf_actions::{Fired, PropertyList};
 use xf_base::Items;
-use xf_doc::NodeList;
+use xf_def_forest::NodeList;
 use xf_eval::append;
 use xf_name::Word;
 

@@ -3,10 +3,10 @@
 use Rattle.std.proofs.Common.{◌≡◌, ℕ, Bool, true, false, nat_lt, if◌then◌else◌, List, [], length, Option, Some, None, refl, ap, ◌∙◌, bytes_eq, codes}
 use Rattle.std.specs.Prelude.{is_some}
 use Rattle.std.specs.List.{flat_map}
-use Rattle.xf_plain_values.specs.declared.plain.Plain.{Plain}
-use Rattle.xf_plain_values.specs.declared.plain.Plain.TheVariants.{Text, Truth}
-use Rattle.xf_plain_values.specs.Bounded.{◌>>=◌, capped}
-use Rattle.xf_plain_values.specs.Conversions.{text_in}
+use Rattle.xf_def_values.specs.declared.plain.Plain.{Plain}
+use Rattle.xf_def_values.specs.declared.plain.Plain.TheVariants.{Text, Truth}
+use Rattle.xf_def_values.specs.Bounded.{◌>>=◌, capped}
+use Rattle.xf_def_values.specs.Conversions.{text_in}
 use Rattle.xf_table.specs.Contents.{function_entries}
 use Rattle.xf_table.specs.Places.{name_at}
 use Rattle.xf_funcs.specs.Given.{string_at}

@@ -4,7 +4,7 @@ use Rattle.std.specs.Char.{encode_utf8}
 use Rattle.std.specs.Str.{chars}
 use Rattle.xf_num.specs.Number.{scale}
 use Rattle.xf_table.specs.Contents.{function_entries}
-use Rattle.xf_plain_values.specs.declared.plain.Plain.TheVariants.{Text, Number, Truth}
+use Rattle.xf_def_values.specs.declared.plain.Plain.TheVariants.{Text, Number, Truth}
 use Rattle.xf_dates.specs.Days.{day_in}
 use Rattle.xf_dates.specs.Durations.{months_units, duration_in}
 use Rattle.xf_funcs.specs.Called.{called}

@@ -4,9 +4,9 @@ use Rattle.std.proofs.lemmas.Bool.{cases_lt}
 use Rattle.std.proofs.lemmas.Bool.Decides.{nat_tests}
 use Rattle.std.proofs.lemmas.List.Folds.{length-flat_map-take}
 use Rattle.xf_base.specs.Limits.{string_limit}
-use Rattle.xf_plain_values.specs.declared.plain.Plain.{Plain}
-use Rattle.xf_plain_values.specs.Bounded.{capped}
-use Rattle.xf_plain_values.specs.Conversions.{text_in}
+use Rattle.xf_def_values.specs.declared.plain.Plain.{Plain}
+use Rattle.xf_def_values.specs.Bounded.{capped}
+use Rattle.xf_def_values.specs.Conversions.{text_in}
 use Rattle.xf_funcs.specs.declared.fault.FuncFault.{FuncFault}
 use Rattle.xf_funcs.specs.declared.fault.FuncFault.TheVariants.{Long, Memory}
 use Rattle.xf_funcs.specs.Given.{string_of}

@@ -5,11 +5,11 @@ use Rattle.std.specs.List.{flat_map}
 use Rattle.xf_num.specs.Number.{floor_of, ceiling_of, rounded}
 use Rattle.xf_table.specs.Contents.{function_entries}
 use Rattle.xf_table.specs.Places.{name_at}
-use Rattle.xf_plain_values.specs.declared.plain.Plain.{Plain}
-use Rattle.xf_plain_values.specs.declared.plain.Plain.TheVariants.{Text, Number, Truth}
-use Rattle.xf_plain_values.specs.Bounded.{◌>>=◌, capped}
-use Rattle.xf_plain_values.specs.Conversions.{Decimal, whole, text_in}
-use Rattle.xf_plain_values.specs.Functions.{Functions}
+use Rattle.xf_def_values.specs.declared.plain.Plain.{Plain}
+use Rattle.xf_def_values.specs.declared.plain.Plain.TheVariants.{Text, Number, Truth}
+use Rattle.xf_def_values.specs.Bounded.{◌>>=◌, capped}
+use Rattle.xf_def_values.specs.Conversions.{Decimal, whole, text_in}
+use Rattle.xf_def_values.specs.Functions.{Functions}
 use Rattle.xf_dates.specs.Days.{day_of}
 use Rattle.xf_dates.specs.Instants.{seconds_of}
 use Rattle.xf_dates.specs.Printed.{date_of, moment_of}

@@ -1,9 +1,9 @@
 -- The arguments of a call (XPath 1.0, section 3.2): each is converted to the type of its parameter.
 use Rattle.std.specs.Prelude.{ℕ, List, [], Option, get_or}
-use Rattle.xf_plain_values.specs.declared.plain.Plain.{Plain}
-use Rattle.xf_plain_values.specs.declared.plain.Plain.TheVariants.{Text}
-use Rattle.xf_plain_values.specs.Bounded.{capped}
-use Rattle.xf_plain_values.specs.Conversions.{Decimal, number_in, text_in}
+use Rattle.xf_def_values.specs.declared.plain.Plain.{Plain}
+use Rattle.xf_def_values.specs.declared.plain.Plain.TheVariants.{Text}
+use Rattle.xf_def_values.specs.Bounded.{capped}
+use Rattle.xf_def_values.specs.Conversions.{Decimal, number_in, text_in}
 
 -- the string that a function makes of a value
 abbrev pub string_of : Option ℕ → ℕ → Plain → Option (List ℕ)

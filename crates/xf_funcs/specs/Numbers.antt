@@ -3,7 +3,7 @@ use Rattle.std.specs.Prelude.{ℕ, zero, suc, ◌/◌, ◌%◌, ◌==◌, nat_le
 use Rattle.std.specs.declared.cmp.Ordering.{Ordering}
 use Rattle.std.specs.declared.cmp.Ordering.TheVariants.{Less, Equal, Greater}
 use Rattle.xf_num.specs.Number.{scale, in_range, product}
-use Rattle.xf_plain_values.specs.Conversions.{whole}
+use Rattle.xf_def_values.specs.Conversions.{whole}
 
 -- 1 multiplied by a number so many times
 abbrev pub multiplied : ℕ → Option ℤ → ℕ → Option ℤ

@@ -4,7 +4,7 @@ ghost use Rattle.std.specs.Prelude.{◌≡◌, Some};
 ghost use Rattle.xf_base.specs.Limits.{string_limit};
 ghost use Rattle.xf_table.specs.Contents.{function_entries};
 ghost use Rattle.xf_table.specs.Places.{name_at};
-ghost use Rattle.xf_plain_values.specs.Bounded.{GivesBounded};
+ghost use Rattle.xf_def_values.specs.Bounded.{GivesBounded};
 ghost use Rattle.xf_funcs.specs.Called.{by_name, called};
 
 use crate::dates::by_dates;
@@ -12,8 +12,8 @@ use crate::fault::FuncFault;
 use crate::given::number_at;
 use crate::numbers::power;
 use std::alloc::Global;
+use xf_def_values::Plain;
 use xf_num::Decimals;
-use xf_plain_values::Plain;
 use xf_table::functions::rows;
 
 /// The value of a function on plain values, which is known by its code in the table of functions, at these arguments.

@@ -3,16 +3,16 @@
 ghost use Rattle.std.specs.Prelude.{◌≡◌, Some};
 ghost use Rattle.std.specs.Cow.{cow_str_bytes};
 ghost use Rattle.xf_base.specs.Limits.{string_limit};
-ghost use Rattle.xf_plain_values.specs.Bounded.{GivesBounded, capped};
-ghost use Rattle.xf_plain_values.specs.Conversions.{whole, number_of_truth, number_in, text_of_truth};
+ghost use Rattle.xf_def_values.specs.Bounded.{GivesBounded, capped};
+ghost use Rattle.xf_def_values.specs.Conversions.{whole, number_of_truth, number_in, text_of_truth};
 ghost use Rattle.xf_funcs.specs.Given.{string_of};
 
 use crate::fault::FuncFault;
 use std::alloc::Global;
 use std::borrow::CowStr;
 use xf_base::limits::STRING_LIMIT;
+use xf_def_values::Plain;
 use xf_num::{Decimals, Num};
-use xf_plain_values::Plain;
 
 /// The value as a number.
 pub fn number_of(value: &Plain, decimals: Decimals) -> Num

@@ -2,7 +2,7 @@
 
 ghost use Rattle.std.specs.Prelude.{◌≡◌, Some};
 ghost use Rattle.xf_base.specs.Limits.{string_limit};
-ghost use Rattle.xf_plain_values.specs.Bounded.{GivesBounded};
+ghost use Rattle.xf_def_values.specs.Bounded.{GivesBounded};
 ghost use Rattle.xf_funcs.specs.Called.{by_dates};
 ghost use Rattle.xf_funcs.specs.Numbers.{day_number, months_in, seconds_in};
 
@@ -11,8 +11,8 @@ use crate::given::{number_at, string_at};
 use crate::strings::by_strings;
 use std::alloc::Global;
 use xf_dates::{date_of, day_of, duration, moment_of, seconds_of};
+use xf_def_values::Plain;
 use xf_num::{Decimals, Num};
-use xf_plain_values::Plain;
 
 /// The functions of dates and durations.
 pub fn by_dates(

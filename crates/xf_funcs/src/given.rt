@@ -3,15 +3,15 @@
 ghost use Rattle.std.specs.Prelude.{◌≡◌, Some};
 ghost use Rattle.std.specs.Cow.{cow_str_bytes};
 ghost use Rattle.xf_base.specs.Limits.{string_limit};
-ghost use Rattle.xf_plain_values.specs.Bounded.{GivesBounded};
+ghost use Rattle.xf_def_values.specs.Bounded.{GivesBounded};
 ghost use Rattle.xf_funcs.specs.Given.{string_at, number_at};
 
 use crate::conversions::{number_of, string_of};
 use crate::fault::FuncFault;
 use std::alloc::Global;
 use std::borrow::CowStr;
+use xf_def_values::Plain;
 use xf_num::{Decimals, Num};
-use xf_plain_values::Plain;
 
 /// The string of the argument at a place from 0.
 pub fn string_at<'a>(

@@ -17,4 +17,4 @@ mod translate;
 pub use calls::call;
 pub use fault::FuncFault;
 pub use served::is_served;
-pub use xf_plain_values::Plain;
+pub use xf_def_values::Plain;

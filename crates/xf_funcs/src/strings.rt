@@ -2,8 +2,8 @@
 
 ghost use Rattle.std.specs.Prelude.{◌≡◌, Some};
 ghost use Rattle.xf_base.specs.Limits.{string_limit};
-ghost use Rattle.xf_plain_values.specs.declared.plain.Plain.TheVariants.{Text};
-ghost use Rattle.xf_plain_values.specs.Bounded.{GivesBounded};
+ghost use Rattle.xf_def_values.specs.declared.plain.Plain.TheVariants.{Text};
+ghost use Rattle.xf_def_values.specs.Bounded.{GivesBounded};
 ghost use Rattle.xf_funcs.specs.Called.{property_value, concat_of, substring_called, translate_of, by_strings, by_texts};
 
 use crate::conversions::{string_of, whole};
@@ -14,9 +14,9 @@ use crate::substring::{substring_from, substring_of};
 use crate::translate::translated;
 use std::alloc::Global;
 use xf_base::limits::STRING_LIMIT;
+use xf_def_values::Plain;
 use xf_name::Word;
 use xf_num::Decimals;
-use xf_plain_values::Plain;
 use xf_types::{char_count, normalized};
 
 /// The functions that ask something of strings.

@@ -4,7 +4,7 @@ ghost use Rattle.std.specs.Prelude.{◌≡◌, ℕ, Some, string_bytes, IfOk, If
 ghost use Rattle.std.specs.BTreeMap.{get};
 ghost use Rattle.std.specs.Ordering.{nat_cmp};
 ghost use Rattle.xf_base.specs.Limits.{string_limit};
-ghost use Rattle.xf_plain_values.specs.Bounded.{GivesBounded, capped};
+ghost use Rattle.xf_def_values.specs.Bounded.{GivesBounded, capped};
 ghost use Rattle.xf_funcs.specs.Translate.{first, others, mapped, kept_or, translated};
 
 use crate::fault::FuncFault;

@@ -4,18 +4,18 @@ use Rattle.std.specs.Prelude.{filter}
 use Rattle.std.specs.List.{position, position_or_len}
 use Rattle.std.proofs.lemmas.List.Recursion.{is_position_or_len}
 use Rattle.xf_name.specs.declared.axis.Axis.TheVariants.{Child}
-use Rattle.xf_doc.specs.declared.content.Content.{Content}
-use Rattle.xf_doc.specs.declared.content.Content.TheVariants as content
-use Rattle.xf_doc.specs.declared.content.Node.{Node}
-use Rattle.xf_doc.specs.Axis.{axis_from, axis_of}
-use Rattle.xf_doc.specs.Forest.{Forest, content_at, has_number, is_attribute, is_element, is_root}
-use Rattle.xf_doc.specs.Visit.{Visit, children_of, is_first, parent_of, visits}
-use Rattle.xf_doc.specs.WellFormed.{are_apart}
-use Rattle.xf_walks.proofs.StackLemmas.{le-from}
-use Rattle.xf_lang.specs.Asked.{found}
-use Rattle.xf_lang.proofs.VisitFacts.{found-number}
-use Rattle.xf_model.specs.Places as model
-use Rattle.xf_model.specs.Places.{Place, elements_among, instead, is_in, within}
+use Rattle.xf_def_forest.specs.declared.content.Content.{Content}
+use Rattle.xf_def_forest.specs.declared.content.Content.TheVariants as content
+use Rattle.xf_def_forest.specs.declared.content.Node.{Node}
+use Rattle.xf_def_forest.specs.Axis.{axis_from, axis_of}
+use Rattle.xf_def_forest.specs.Forest.{Forest, content_at, has_number, is_attribute, is_element, is_root}
+use Rattle.xf_def_forest.specs.Visit.{Visit, children_of, is_first, parent_of, visits}
+use Rattle.xf_def_forest.specs.WellFormed.{are_apart}
+use Rattle.xf_tree_walks.proofs.StackLemmas.{le-from}
+use Rattle.xf_def_xpath.specs.Asked.{found}
+use Rattle.xf_def_xpath.proofs.VisitFacts.{found-number}
+use Rattle.xf_def_model.specs.Places as model
+use Rattle.xf_def_model.specs.Places.{Place, elements_among, instead, is_in, within}
 use Rattle.xf_insert.specs.Placing.{at_node}
 use Rattle.xf_insert.proofs.KindLaws.{by_test, content-is, is-in, no-content}
 use Rattle.xf_insert.proofs.PlaceLaws.{visited}

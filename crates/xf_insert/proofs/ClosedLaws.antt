@@ -2,18 +2,18 @@
 use Rattle.std.proofs.Common.{◌≡◌, ℕ, suc, ℤ, ◌==◌, Bool, true, false, not, cond, ◌&&◌, ◌||◌, List, [], ◌∷◌, ◌++◌, map, Option, Some, None, refl, sym, ap, ◌∙◌, arith}
 use Rattle.std.specs.Prelude.{filter}
 use Rattle.std.proofs.lemmas.Bool.Decides.{nat_tests}
-use Rattle.xf_doc.specs.declared.content.Content.{Content}
-use Rattle.xf_doc.specs.declared.content.Content.TheVariants as content
-use Rattle.xf_doc.specs.declared.content.Node.{Node}
-use Rattle.xf_doc.specs.Changes.{place_among}
-use Rattle.xf_doc.specs.Forest.{has_number, is_attribute, is_element, is_root}
-use Rattle.xf_doc.specs.Visit.{Visit, children_of, has, parent_of, visits}
-use Rattle.xf_doc.proofs.OrderLaws.{seen-has}
-use Rattle.xf_model.specs.Places as model
-use Rattle.xf_model.specs.Places.{Place, content_in, elements_among, instead, is_in, named_by, named_place, row_place, within}
-use Rattle.xf_ui.specs.declared.marks.Marks.{Marks}
-use Rattle.xf_form_machine.specs.Insert.{is_written}
-use Rattle.xf_form_machine.specs.Program.{InsertBy}
+use Rattle.xf_def_forest.specs.declared.content.Content.{Content}
+use Rattle.xf_def_forest.specs.declared.content.Content.TheVariants as content
+use Rattle.xf_def_forest.specs.declared.content.Node.{Node}
+use Rattle.xf_def_forest.specs.Changes.{place_among}
+use Rattle.xf_def_forest.specs.Forest.{has_number, is_attribute, is_element, is_root}
+use Rattle.xf_def_forest.specs.Visit.{Visit, children_of, has, parent_of, visits}
+use Rattle.xf_def_forest.proofs.OrderLaws.{seen-has}
+use Rattle.xf_def_model.specs.Places as model
+use Rattle.xf_def_model.specs.Places.{Place, content_in, elements_among, instead, is_in, named_by, named_place, row_place, within}
+use Rattle.xf_def_ui.specs.declared.marks.Marks.{Marks}
+use Rattle.xf_def_machine.specs.Insert.{is_written}
+use Rattle.xf_def_machine.specs.Program.{InsertBy}
 use Rattle.xf_insert.specs.Closed.{closed_by, insert_asked, is_first_closed}
 use Rattle.xf_insert.specs.Placing.{at_some, places_in}
 

@@ -7,14 +7,14 @@ use Rattle.std.proofs.lemmas.List.Folds.{list_any-append}
 use Rattle.std.proofs.lemmas.List.{reverse-append}
 use Rattle.indexmap.specs.IndexSet.{insert_key}
 use Rattle.xf_name.specs.declared.axis.Axis.TheVariants.{Ancestor}
-use Rattle.xf_doc.specs.declared.content.Node.{Node}
-use Rattle.xf_doc.specs.Axis.{axis_from, axis_of}
-use Rattle.xf_doc.specs.Visit.{Visit, above_in, ancestors_of, has, parent_of, visits}
-use Rattle.xf_doc.proofs.LiveLaws.{ancestors-live}
-use Rattle.xf_doc.proofs.OrderLaws.{seen-has}
-use Rattle.xf_doc.proofs.BackLaws.{or-false}
-use Rattle.xf_lang.proofs.VisitFacts.{or-right}
-use Rattle.xf_model.specs.Taken.{is_apart, is_open, taken_from}
+use Rattle.xf_def_forest.specs.declared.content.Node.{Node}
+use Rattle.xf_def_forest.specs.Axis.{axis_from, axis_of}
+use Rattle.xf_def_forest.specs.Visit.{Visit, above_in, ancestors_of, has, parent_of, visits}
+use Rattle.xf_def_forest.proofs.LiveLaws.{ancestors-live}
+use Rattle.xf_def_forest.proofs.OrderLaws.{seen-has}
+use Rattle.xf_def_forest.proofs.BackLaws.{or-false}
+use Rattle.xf_def_xpath.proofs.VisitFacts.{or-right}
+use Rattle.xf_def_model.specs.Taken.{is_apart, is_open, taken_from}
 
 abbrev Alike : List ℕ → List ℕ → Type 0
 Alike one other = (n : ℕ) → has n one ≡ has n other

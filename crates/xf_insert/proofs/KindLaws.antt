@@ -4,17 +4,17 @@ use Rattle.std.specs.Prelude.{find, option_and_then}
 use Rattle.std.specs.List.{list_any}
 use Rattle.std.proofs.lemmas.Bool.Decides.{nat_tests}
 use Rattle.xf_name.specs.declared.qname.QName.{QName}
-use Rattle.xf_doc.specs.declared.content.Content.{Content}
-use Rattle.xf_doc.specs.declared.content.Content.TheVariants as content
-use Rattle.xf_doc.specs.declared.content.Kind.{Kind}
-use Rattle.xf_doc.specs.declared.content.Kind.TheVariants as kind
-use Rattle.xf_doc.specs.declared.content.Name.{Name}
-use Rattle.xf_doc.specs.declared.content.Node.{Node}
-use Rattle.xf_doc.specs.Forest.{content_at, has_number, is_attribute, is_element, is_root, kind_at, kind_of, name_at, name_in, node_at}
-use Rattle.xf_doc.specs.Visit.{Visit, still_above, visit, visits, visits_from}
-use Rattle.xf_doc.specs.WellFormed.{are_apart, have_same_name}
-use Rattle.xf_doc.proofs.BackLaws.{and-true, not-true, or-false}
-use Rattle.xf_model.specs.Places.{content_in, is_in, name_of}
+use Rattle.xf_def_forest.specs.declared.content.Content.{Content}
+use Rattle.xf_def_forest.specs.declared.content.Content.TheVariants as content
+use Rattle.xf_def_forest.specs.declared.content.Kind.{Kind}
+use Rattle.xf_def_forest.specs.declared.content.Kind.TheVariants as kind
+use Rattle.xf_def_forest.specs.declared.content.Name.{Name}
+use Rattle.xf_def_forest.specs.declared.content.Node.{Node}
+use Rattle.xf_def_forest.specs.Forest.{content_at, has_number, is_attribute, is_element, is_root, kind_at, kind_of, name_at, name_in, node_at}
+use Rattle.xf_def_forest.specs.Visit.{Visit, still_above, visit, visits, visits_from}
+use Rattle.xf_def_forest.specs.WellFormed.{are_apart, have_same_name}
+use Rattle.xf_def_forest.proofs.BackLaws.{and-true, not-true, or-false}
+use Rattle.xf_def_model.specs.Places.{content_in, is_in, name_of}
 use Rattle.xf_insert.specs.Names.{are_same}
 
 visited-any : (test : Content → Bool) (n : ℕ) (above xs : List Node)

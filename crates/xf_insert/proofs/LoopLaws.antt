@@ -2,14 +2,14 @@
 use Rattle.std.proofs.Common.{◌≡◌, ℕ, zero, suc, ◌+◌, ◌-◌, ◌<◌, ◌≤◌, ◌==◌, Bool, true, false, cond, ◌&&◌, List, [], ◌∷◌, ◌++◌, map, drop, get_or, length, Option, Some, None, refl, sym, ap, ◌∙◌, arith, append_assoc}
 use Rattle.std.proofs.lemmas.List.{drop_all, drop_more}
 use Rattle.indexmap.specs.IndexSet.{insert_key}
-use Rattle.xf_doc.specs.declared.content.Content.{Content}
-use Rattle.xf_doc.specs.declared.node.NodeId.{NodeId}
-use Rattle.xf_doc.specs.Forest.{is_attribute, is_element}
-use Rattle.xf_doc.specs.Visit.{Visit}
-use Rattle.xf_doc.specs.WellFormed.{have_same_name}
-use Rattle.xf_model.specs.Places as model
-use Rattle.xf_model.specs.Places.{is_in, name_of, named_place, row_place, within}
-use Rattle.xf_model.specs.Taken.{taken_from}
+use Rattle.xf_def_forest.specs.declared.content.Content.{Content}
+use Rattle.xf_def_forest.specs.declared.node.NodeId.{NodeId}
+use Rattle.xf_def_forest.specs.Forest.{is_attribute, is_element}
+use Rattle.xf_def_forest.specs.Visit.{Visit}
+use Rattle.xf_def_forest.specs.WellFormed.{have_same_name}
+use Rattle.xf_def_model.specs.Places as model
+use Rattle.xf_def_model.specs.Places.{is_in, name_of, named_place, row_place, within}
+use Rattle.xf_def_model.specs.Taken.{taken_from}
 use Rattle.xf_actions.specs.Seen.{place_of}
 use Rattle.xf_actions.specs.declared.place.Place.{Place}
 use Rattle.xf_insert.specs.Numbers.{numbers}

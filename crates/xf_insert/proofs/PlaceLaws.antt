@@ -3,19 +3,19 @@ use Rattle.std.proofs.Common.{◌≡◌, ℕ, ◌==◌, Bool, true, false, cond,
 use Rattle.std.specs.Prelude.{filter, find, is_some, option_and_then}
 use Rattle.xf_name.specs.declared.axis.Axis.TheVariants.{Attribute}
 use Rattle.std.proofs.lemmas.Bool.Decides.{nat_tests}
-use Rattle.xf_doc.specs.declared.content.Name.{Name}
-use Rattle.xf_doc.specs.declared.content.Node.{Node}
-use Rattle.xf_doc.specs.Axis.{axis_from, axis_of}
-use Rattle.xf_doc.specs.Forest.{Forest, has_number, is_attribute, name_in}
-use Rattle.xf_doc.specs.Visit.{Visit, is_first, numbers, still_above, visit, visits, visits_from}
-use Rattle.xf_doc.specs.WellFormed.{HasTrees, have_same_name}
-use Rattle.xf_doc.proofs.OrderLaws.{seen-has, visits-different}
-use Rattle.xf_walks.proofs.StackLemmas.{absent-above, absent-cons, absent-parts}
-use Rattle.xf_lang.specs.Asked.{found}
-use Rattle.xf_lang.proofs.ForestVisits.{Each, self-found}
-use Rattle.xf_lang.proofs.VisitFacts.{found-number, has-found, no}
-use Rattle.xf_model.specs.Places as model
-use Rattle.xf_model.specs.Places.{name_of}
+use Rattle.xf_def_forest.specs.declared.content.Name.{Name}
+use Rattle.xf_def_forest.specs.declared.content.Node.{Node}
+use Rattle.xf_def_forest.specs.Axis.{axis_from, axis_of}
+use Rattle.xf_def_forest.specs.Forest.{Forest, has_number, is_attribute, name_in}
+use Rattle.xf_def_forest.specs.Visit.{Visit, is_first, numbers, still_above, visit, visits, visits_from}
+use Rattle.xf_def_forest.specs.WellFormed.{HasTrees, have_same_name}
+use Rattle.xf_def_forest.proofs.OrderLaws.{seen-has, visits-different}
+use Rattle.xf_tree_walks.proofs.StackLemmas.{absent-above, absent-cons, absent-parts}
+use Rattle.xf_def_xpath.specs.Asked.{found}
+use Rattle.xf_def_xpath.proofs.ForestVisits.{Each, self-found}
+use Rattle.xf_def_xpath.proofs.VisitFacts.{found-number, has-found, no}
+use Rattle.xf_def_model.specs.Places as model
+use Rattle.xf_def_model.specs.Places.{name_of}
 use Rattle.xf_insert.specs.Placing.{first_named}
 
 named-by : (all : List Visit) (own : Option Name) (q : Visit → Bool) (ys : List Visit) → Each (λ v. found v.number all ≡ Some v) ys

@@ -1,13 +1,13 @@
 -- The nodes under which nothing is inserted and nothing deleted: those that are readonly (XForms 1.1, sections 10.3 and 10.4).
 use Rattle.std.specs.Prelude.{ℕ, Bool, false, not, List, [], ◌∷◌, filter, map, ℤ, Option}
-use Rattle.xf_doc.specs.declared.content.Node.{Node}
-use Rattle.xf_doc.specs.Visit.{has, visits}
-use Rattle.xf_model.specs.declared.asked.DeleteAsked.{DeleteAsked}
-use Rattle.xf_model.specs.declared.asked.InsertAsked.{InsertAsked}
-use Rattle.xf_model.specs.Places.{Place}
-use Rattle.xf_ui.specs.declared.marks.Marks.{Marks}
-use Rattle.xf_form_machine.specs.Insert.{is_written}
-use Rattle.xf_form_machine.specs.Program.{InsertBy}
+use Rattle.xf_def_forest.specs.declared.content.Node.{Node}
+use Rattle.xf_def_forest.specs.Visit.{has, visits}
+use Rattle.xf_def_model.specs.declared.asked.DeleteAsked.{DeleteAsked}
+use Rattle.xf_def_model.specs.declared.asked.InsertAsked.{InsertAsked}
+use Rattle.xf_def_model.specs.Places.{Place}
+use Rattle.xf_def_ui.specs.declared.marks.Marks.{Marks}
+use Rattle.xf_def_machine.specs.Insert.{is_written}
+use Rattle.xf_def_machine.specs.Program.{InsertBy}
 
 -- by the properties that are told of each node
 abbrev pub closed_by : (ℕ → Marks) → List Node → List ℕ

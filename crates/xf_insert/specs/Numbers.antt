@@ -1,6 +1,6 @@
 -- Nodes by their numbers.
 use Rattle.std.specs.Prelude.{ℕ, List, map}
-use Rattle.xf_doc.specs.declared.node.NodeId.{NodeId}
+use Rattle.xf_def_forest.specs.declared.node.NodeId.{NodeId}
 
 abbrev pub number : NodeId → ℕ
 number n = n.number

@@ -1,14 +1,14 @@
 -- Where the copies of an insert go, by the node at which they go (XForms 1.1, section 10.3).
 use Rattle.std.specs.Prelude.{ℕ, suc, Bool, not, ◌&&◌, ℤ, List, [], ◌∷◌, filter, find, Option, Some, None, if◌then◌else◌}
-use Rattle.xf_doc.specs.declared.content.Content.{Content}
-use Rattle.xf_doc.specs.Changes.{place_among}
-use Rattle.xf_doc.specs.Forest.{is_attribute, is_element}
-use Rattle.xf_doc.specs.Visit.{Visit, children_of, parent_of}
-use Rattle.xf_doc.specs.WellFormed.{have_same_name}
-use Rattle.xf_model.specs.Places as model
-use Rattle.xf_model.specs.Places.{Place, content_in, is_in, name_of, named_by, named_place, row_place, within}
-use Rattle.xf_form_machine.specs.Insert.{is_written}
-use Rattle.xf_form_machine.specs.Program.{InsertBy}
+use Rattle.xf_def_forest.specs.declared.content.Content.{Content}
+use Rattle.xf_def_forest.specs.Changes.{place_among}
+use Rattle.xf_def_forest.specs.Forest.{is_attribute, is_element}
+use Rattle.xf_def_forest.specs.Visit.{Visit, children_of, parent_of}
+use Rattle.xf_def_forest.specs.WellFormed.{have_same_name}
+use Rattle.xf_def_model.specs.Places as model
+use Rattle.xf_def_model.specs.Places.{Place, content_in, is_in, name_of, named_by, named_place, row_place, within}
+use Rattle.xf_def_machine.specs.Insert.{is_written}
+use Rattle.xf_def_machine.specs.Program.{InsertBy}
 
 abbrev pub among : (Content → Bool) → List Visit → List ℕ → List ℕ
 among test all ns = filter (is_in test all) ns

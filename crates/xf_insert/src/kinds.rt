@@ -1,13 +1,13 @@
 //! What kind of node it is, and whether two have one name.
 
 ghost use Rattle.std.specs.Prelude.{◌≡◌, option_map};
-ghost use Rattle.xf_doc.specs.Forest as forest_specs;
-ghost use Rattle.xf_doc.specs.Visit.{visits};
-ghost use Rattle.xf_doc.specs.WellFormed.{have_same_name};
-ghost use Rattle.xf_model.specs.Places.{is_in, name_of};
+ghost use Rattle.xf_def_forest.specs.Forest as forest_specs;
+ghost use Rattle.xf_def_forest.specs.Visit.{visits};
+ghost use Rattle.xf_def_forest.specs.WellFormed.{have_same_name};
+ghost use Rattle.xf_def_model.specs.Places.{is_in, name_of};
 ghost use Rattle.xf_insert.specs.Names as names;
 
-use xf_doc::{Kind, NodeId};
+use xf_def_forest::{Kind, NodeId};
 use xf_name::QName;
 use xf_tree::Forest;
 

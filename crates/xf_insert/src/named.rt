@@ -1,7 +1,7 @@
 //! The node of a set that a place names (XForms 1.1, section 10.3).
 
 ghost use Rattle.std.specs.Prelude.{◌≡◌, Some};
-ghost use Rattle.xf_model.specs.Places as model;
+ghost use Rattle.xf_def_model.specs.Places as model;
 
 /// A place held between 1 and the size.
 pub fn held(size: usize, at: i64) -> usize

@@ -1,12 +1,12 @@
 //! Where the copies of an insert go (XForms 1.1, section 10.3).
 
 ghost use Rattle.std.specs.Prelude.{◌≡◌, ◌++◌, ◌+◌, ◌<◌, ◌∷◌, [], IfOk, Ok, OnOk, Option, map, option_map};
-ghost use Rattle.xf_doc.specs.Changes.{place_among};
-ghost use Rattle.xf_doc.specs.Forest.{IsLive};
-ghost use Rattle.xf_doc.specs.Forest as forest_specs;
-ghost use Rattle.xf_doc.specs.Visit.{children_of, visits};
-ghost use Rattle.xf_model.specs.Places as model;
-ghost use Rattle.xf_form_machine.specs.Tables.{insert_by};
+ghost use Rattle.xf_def_forest.specs.Changes.{place_among};
+ghost use Rattle.xf_def_forest.specs.Forest.{IsLive};
+ghost use Rattle.xf_def_forest.specs.Forest as forest_specs;
+ghost use Rattle.xf_def_forest.specs.Visit.{children_of, visits};
+ghost use Rattle.xf_def_model.specs.Places as model;
+ghost use Rattle.xf_def_machine.specs.Tables.{insert_by};
 ghost use Rattle.xf_actions.specs.Seen.{place_of};
 ghost use Rattle.xf_insert.specs.Closed.{closed_by, insert_asked};
 ghost use Rattle.xf_insert.specs.Closed as closed;
@@ -19,12 +19,12 @@ use crate::planning::{Asked, Planning, is_closed};
 use crate::walking::listed;
 use std::alloc::{AllocError, Global};
 use xf_actions::{Place, PlaceList};
-use xf_ast::InsertWork;
 use xf_base::Items;
-use xf_doc::{NodeId, NodeList};
+use xf_def_forest::{NodeId, NodeList};
+use xf_def_syntax::InsertWork;
+use xf_def_ui::NodeMarks;
 use xf_name::Axis;
 use xf_tree::Forest;
-use xf_ui::NodeMarks;
 
 /// Where the copies of an insert go. All of them have one parent, so that one look tells whether it is readonly.
 pub fn planned_insert<M: NodeMarks>(

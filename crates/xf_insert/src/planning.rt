@@ -1,14 +1,14 @@
 //! Over what an insert and a delete are planned.
 
 ghost use Rattle.std.specs.Prelude.{◌≡◌};
-ghost use Rattle.xf_doc.specs.Visit.{has};
+ghost use Rattle.xf_def_forest.specs.Visit.{has};
 ghost use Rattle.xf_insert.specs.Closed.{closed_by};
 
 use crate::kinds::is_live;
 use std::alloc::Global;
-use xf_doc::{NodeId, NodeList};
+use xf_def_forest::{NodeId, NodeList};
+use xf_def_ui::NodeMarks;
 use xf_tree::Forest;
-use xf_ui::NodeMarks;
 
 /// Data, and who tells the properties of their nodes.
 #[derive(Clone, Copy)]

@@ -3,11 +3,11 @@
 ghost use Rattle.std.specs.Prelude.{◌≡◌, ◌==◌, ◌++◌, [], ◌∷◌, IfOk, OnOk, Some, if◌then◌else◌};
 ghost use Rattle.std.specs.List.{list_any};
 ghost use Rattle.indexmap.specs.IndexSet.{insert_key};
-ghost use Rattle.xf_doc.specs.Visit.{has, visits};
-ghost use Rattle.xf_lang.specs.Binding.{as_list};
-ghost use Rattle.xf_model.specs.Places.{named_by};
-ghost use Rattle.xf_model.specs.Taken as model;
-ghost use Rattle.xf_model.specs.Taken.{taken_from};
+ghost use Rattle.xf_def_forest.specs.Visit.{has, visits};
+ghost use Rattle.xf_def_xpath.specs.Binding.{as_list};
+ghost use Rattle.xf_def_model.specs.Places.{named_by};
+ghost use Rattle.xf_def_model.specs.Taken as model;
+ghost use Rattle.xf_def_model.specs.Taken.{taken_from};
 ghost use Rattle.xf_insert.specs.Closed.{closed_by, delete_asked};
 ghost use Rattle.xf_insert.specs.Numbers.{numbers};
 ghost use Rattle.xf_insert.specs.Taking.{may_take};
@@ -18,9 +18,9 @@ use crate::planning::{Planning, is_closed};
 use crate::walking::listed;
 use indexmap::IndexSet;
 use std::alloc::{AllocError, Global};
-use xf_doc::{NodeId, NodeList};
+use xf_def_forest::{NodeId, NodeList};
+use xf_def_ui::NodeMarks;
 use xf_name::Axis;
-use xf_ui::NodeMarks;
 
 /// The nodes that a delete takes, of a set or of the one node of it that a place names.
 pub fn planned_delete<M: NodeMarks>(

@@ -1,12 +1,12 @@
 //! The nodes on an axis, as a list.
 
 ghost use Rattle.std.specs.Prelude.{◌≡◌, ◌++◌, IfOk, OnOk};
-ghost use Rattle.xf_doc.specs.Axis.{axis_of};
-ghost use Rattle.xf_doc.specs.Forest.{IsLive};
-ghost use Rattle.xf_doc.specs.Visit.{visits};
+ghost use Rattle.xf_def_forest.specs.Axis.{axis_of};
+ghost use Rattle.xf_def_forest.specs.Forest.{IsLive};
+ghost use Rattle.xf_def_forest.specs.Visit.{visits};
 
 use std::alloc::{AllocError, Global};
-use xf_doc::{NodeId, NodeList};
+use xf_def_forest::{NodeId, NodeList};
 use xf_name::Axis;
 use xf_tree::Forest;
 

@@ -3,20 +3,20 @@ use Rattle.std.proofs.Common.{◌≡◌, ℕ, suc, ◌+◌, ◌<◌, List, [], �
 use Rattle.std.specs.Prelude.{if◌then◌else◌}
 use Rattle.std.specs.List.{flat_map}
 use Rattle.std.proofs.lemmas.List.{append-nil, drop_more}
-use Rattle.xf_ast.specs.declared.element.Part.{Part}
-use Rattle.xf_ast.specs.declared.element.Part.TheVariants as part
-use Rattle.xf_ast.specs.Ordered.{child_in}
-use Rattle.xf_ast.specs.declared.element.Control.TheVariants as control
-use Rattle.xf_ast.specs.declared.element.Kind.{Kind}
-use Rattle.xf_ast.specs.declared.element.Kind.TheVariants as kind
-use Rattle.xf_lang.specs.Setting.{each}
-use Rattle.xf_lang.specs.Setting as option
-use Rattle.xf_ui.specs.declared.answers.Item.{Item}
-use Rattle.xf_ui.specs.Around.{Around}
-use Rattle.xf_ui.specs.Context.{Inside, enter}
-use Rattle.xf_ui.specs.Elements.{element_at}
-use Rattle.xf_ui.specs.Interface.{Interface, Sort, host, other, group, switch, one_case, repeated, field, output, select, item, itemset, choices, label, item_value, inline, action, sort_of}
-use Rattle.xf_ui.specs.Items.{all_items, items_at, items_by}
+use Rattle.xf_def_syntax.specs.declared.element.Part.{Part}
+use Rattle.xf_def_syntax.specs.declared.element.Part.TheVariants as part
+use Rattle.xf_def_syntax.specs.Ordered.{child_in}
+use Rattle.xf_def_syntax.specs.declared.element.Control.TheVariants as control
+use Rattle.xf_def_syntax.specs.declared.element.Kind.{Kind}
+use Rattle.xf_def_syntax.specs.declared.element.Kind.TheVariants as kind
+use Rattle.xf_def_xpath.specs.Setting.{each}
+use Rattle.xf_def_xpath.specs.Setting as option
+use Rattle.xf_def_ui.specs.declared.answers.Item.{Item}
+use Rattle.xf_def_ui.specs.Around.{Around}
+use Rattle.xf_def_ui.specs.Context.{Inside, enter}
+use Rattle.xf_def_ui.specs.Elements.{element_at}
+use Rattle.xf_def_ui.specs.Interface.{Interface, Sort, host, other, group, switch, one_case, repeated, field, output, select, item, itemset, choices, label, item_value, inline, action, sort_of}
+use Rattle.xf_def_ui.specs.Items.{all_items, items_at, items_by}
 use Rattle.xf_items.specs.Items.{behind, choices_inside, choices_parts, is_choices, items_among, own_by, own_items}
 
 -- items and then others, where both are there

@@ -2,13 +2,13 @@
 use Rattle.std.proofs.Common.{◌≡◌, ◌⊎◌, ℕ, Bool, true, false, cond, List, ◌∷◌, inl, inr, Option, Some, None, Err, refl, sym, ap, subst}
 use Rattle.std.specs.Prelude.{find}
 use Rattle.std.specs.List.{flat_map}
-use Rattle.xf_ast.specs.declared.element.Part.{Part}
-use Rattle.xf_ast.specs.declared.element.Part.TheVariants as part
-use Rattle.xf_ast.specs.Ordered.{child_in}
-use Rattle.xf_lang.specs.declared.fault.EvalFault.{EvalFault}
-use Rattle.xf_lang.specs.declared.fault.EvalFault.TheVariants.{Long, Memory}
-use Rattle.xf_ui.specs.declared.answers.Item.{Item}
-use Rattle.xf_ui.specs.Interface.{host}
+use Rattle.xf_def_syntax.specs.declared.element.Part.{Part}
+use Rattle.xf_def_syntax.specs.declared.element.Part.TheVariants as part
+use Rattle.xf_def_syntax.specs.Ordered.{child_in}
+use Rattle.xf_def_xpath.specs.declared.fault.EvalFault.{EvalFault}
+use Rattle.xf_def_xpath.specs.declared.fault.EvalFault.TheVariants.{Long, Memory}
+use Rattle.xf_def_ui.specs.declared.answers.Item.{Item}
+use Rattle.xf_def_ui.specs.Interface.{host}
 use Rattle.xf_items.specs.declared.labels.Sought.{Sought}
 use Rattle.xf_items.specs.declared.labels.Sought.TheVariants.{Label, Value}
 use Rattle.xf_items.specs.Items.{Adds, is_sought}

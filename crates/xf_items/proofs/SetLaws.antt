@@ -1,13 +1,13 @@
 -- The items at the nodes of a set are that at the first, and then those at the others.
 use Rattle.std.proofs.Common.{◌≡◌, ℕ, ◌+◌, ◌<◌, List, [], ◌∷◌, ◌++◌, length, drop, get_or, map, Option, Some, None, refl, sym, ap, ◌∙◌, append_assoc}
 use Rattle.std.proofs.lemmas.List.{drop_more}
-use Rattle.xf_doc.specs.declared.node.NodeId.{NodeId}
-use Rattle.xf_lang.specs.Setting as option
-use Rattle.xf_ui.specs.declared.answers.Item.{Item}
-use Rattle.xf_ui.specs.Around.{Around}
-use Rattle.xf_ui.specs.Context.{Inside}
-use Rattle.xf_ui.specs.Interface.{Interface}
-use Rattle.xf_ui.specs.Items.{item_in}
+use Rattle.xf_def_forest.specs.declared.node.NodeId.{NodeId}
+use Rattle.xf_def_xpath.specs.Setting as option
+use Rattle.xf_def_ui.specs.declared.answers.Item.{Item}
+use Rattle.xf_def_ui.specs.Around.{Around}
+use Rattle.xf_def_ui.specs.Context.{Inside}
+use Rattle.xf_def_ui.specs.Interface.{Interface}
+use Rattle.xf_def_ui.specs.Items.{item_in}
 use Rattle.xf_items.specs.Items.{alone, behind, placed, placed_items}
 
 abbrev pub numbers : List NodeId → List ℕ

@@ -4,8 +4,8 @@ use Rattle.std.specs.Prelude.{filter}
 use Rattle.std.specs.List.{list_all, list_any, slice_split, onto_first}
 use Rattle.std.proofs.lemmas.List.{take_all, take_more, drop_all, drop_more, get_or-drop}
 use Rattle.xf_num.specs.Written.{is_space, is_empty}
-use Rattle.xf_ui.specs.Items.{has_value, words}
-use Rattle.xf_ui.specs.declared.answers.Item.{Item}
+use Rattle.xf_def_ui.specs.Items.{has_value, words}
+use Rattle.xf_def_ui.specs.declared.answers.Item.{Item}
 use Rattle.xf_items.specs.Words.{is_other, is_word, parts_after}
 
 -- ---- parts

@@ -1,18 +1,18 @@
 -- The items of a select in what surrounds it, part after part of what stands in it, and as they are put behind others.
 use Rattle.std.specs.Prelude.{ℕ, ◌≡◌, Bool, true, false, List, [], ◌∷◌, ◌++◌, length, find, Option, Some, None, option_map, Result, Ok, Err, if◌then◌else◌}
 use Rattle.std.specs.List.{flat_map}
-use Rattle.xf_ast.specs.declared.element.Part.{Part}
-use Rattle.xf_ast.specs.declared.element.Part.TheVariants as part
-use Rattle.xf_ast.specs.Ordered.{child_in}
-use Rattle.xf_lang.specs.declared.fault.EvalFault.{EvalFault}
-use Rattle.xf_lang.specs.declared.fault.EvalFault.TheVariants.{Long, Memory}
-use Rattle.xf_lang.specs.Setting.{◌>>=◌, each}
-use Rattle.xf_ui.specs.declared.answers.Item.{Item}
-use Rattle.xf_ui.specs.Around.{Around}
-use Rattle.xf_ui.specs.Context.{Inside, Context, on, standing_in, enter}
-use Rattle.xf_ui.specs.Elements.{children, element_at}
-use Rattle.xf_ui.specs.Interface.{Interface, Sort, item, itemset, choices}
-use Rattle.xf_ui.specs.Items.{all_items, is_label, is_value, item_in, items_at, set_items}
+use Rattle.xf_def_syntax.specs.declared.element.Part.{Part}
+use Rattle.xf_def_syntax.specs.declared.element.Part.TheVariants as part
+use Rattle.xf_def_syntax.specs.Ordered.{child_in}
+use Rattle.xf_def_xpath.specs.declared.fault.EvalFault.{EvalFault}
+use Rattle.xf_def_xpath.specs.declared.fault.EvalFault.TheVariants.{Long, Memory}
+use Rattle.xf_def_xpath.specs.Setting.{◌>>=◌, each}
+use Rattle.xf_def_ui.specs.declared.answers.Item.{Item}
+use Rattle.xf_def_ui.specs.Around.{Around}
+use Rattle.xf_def_ui.specs.Context.{Inside, Context, on, standing_in, enter}
+use Rattle.xf_def_ui.specs.Elements.{children, element_at}
+use Rattle.xf_def_ui.specs.Interface.{Interface, Sort, item, itemset, choices}
+use Rattle.xf_def_ui.specs.Items.{all_items, is_label, is_value, item_in, items_at, set_items}
 use Rattle.xf_items.specs.declared.labels.Sought.{Sought}
 use Rattle.xf_items.specs.declared.labels.Sought.TheVariants.{Label, Value}
 

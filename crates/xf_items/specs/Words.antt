@@ -1,8 +1,8 @@
 -- The parts of a text between white space, of which the words are those that are not empty.
 use Rattle.std.specs.Prelude.{ℕ, Bool, ◌&&◌, not, List, [], ◌∷◌, ◌++◌, bytes_eq, if◌then◌else◌}
 use Rattle.xf_num.specs.Written.{is_empty, is_space}
-use Rattle.xf_ui.specs.declared.answers.Item.{Item}
-use Rattle.xf_ui.specs.Items.{has_value}
+use Rattle.xf_def_ui.specs.declared.answers.Item.{Item}
+use Rattle.xf_def_ui.specs.Items.{has_value}
 
 -- the parts of what follows, the first of which has begun
 abbrev pub parts_after : List ℕ → List ℕ → List (List ℕ)

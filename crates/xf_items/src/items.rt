@@ -1,23 +1,23 @@
 //! The items of a select (XForms 1.1, sections 8.1.10, 8.1.11 and 8.3): those written and those of item sets, in document order.
 
 ghost use Rattle.std.specs.Prelude.{◌≡◌, map};
-ghost use Rattle.xf_plain_values.specs.Bounded.{GivesBounded};
-ghost use Rattle.xf_ui.specs.Elements.{element_at};
-ghost use Rattle.xf_ui.specs.Interface.{element_of, interface_of, sort_of};
-ghost use Rattle.xf_ui.specs.Items.{items_of};
-ghost use Rattle.xf_context.specs.Inside.{seen_inside};
-ghost use Rattle.xf_context.specs.Over.{around_over};
+ghost use Rattle.xf_def_values.specs.Bounded.{GivesBounded};
+ghost use Rattle.xf_def_ui.specs.Elements.{element_at};
+ghost use Rattle.xf_def_ui.specs.Interface.{element_of, interface_of, sort_of};
+ghost use Rattle.xf_def_ui.specs.Items.{items_of};
+ghost use Rattle.xf_eval_context.specs.Inside.{seen_inside};
+ghost use Rattle.xf_eval_context.specs.Over.{around_over};
 ghost use Rattle.xf_items.specs.Items as items;
 
 use crate::labels::push_item;
 use crate::sets::push_set;
-use xf_ast::{Form, Kind, Part};
 use xf_base::Items;
-use xf_context::{Inside, Over, enter, inside_under};
-use xf_doc::NodeId;
-use xf_elements::{element_in, parts_at};
+use xf_def_forest::NodeId;
+use xf_def_syntax::{Form, Kind, Part};
+use xf_def_ui::ItemList;
 use xf_eval::EvalFault;
-use xf_ui::ItemList;
+use xf_eval_context::{Inside, Over, enter, inside_under};
+use xf_form_elements::{element_in, parts_at};
 
 /// The items of a select under a chain of row nodes of the repeats around it, the outermost first.
 pub fn items_of(over: &Over<'_>, rows: &[NodeId], select: u32) -> Result<ItemList, EvalFault>

@@ -2,21 +2,21 @@
 
 ghost use Rattle.std.specs.Prelude.{◌≡◌, find, option_map};
 ghost use Rattle.std.specs.List.{flat_map};
-ghost use Rattle.xf_plain_values.specs.Bounded.{GivesBounded};
-ghost use Rattle.xf_ast.specs.Ordered.{child_in};
-ghost use Rattle.xf_ui.specs.Elements.{element_at};
-ghost use Rattle.xf_ui.specs.Interface.{interface_of, sort_of};
-ghost use Rattle.xf_ui.specs.Items as ui;
-ghost use Rattle.xf_context.specs.Inside.{seen_inside};
-ghost use Rattle.xf_context.specs.Over.{around_over};
+ghost use Rattle.xf_def_values.specs.Bounded.{GivesBounded};
+ghost use Rattle.xf_def_syntax.specs.Ordered.{child_in};
+ghost use Rattle.xf_def_ui.specs.Elements.{element_at};
+ghost use Rattle.xf_def_ui.specs.Interface.{interface_of, sort_of};
+ghost use Rattle.xf_def_ui.specs.Items as ui;
+ghost use Rattle.xf_eval_context.specs.Inside.{seen_inside};
+ghost use Rattle.xf_eval_context.specs.Over.{around_over};
 ghost use Rattle.xf_items.specs.Items as items;
 
-use xf_ast::{Form, Kind, Part};
-use xf_context::{Inside, Over, text_in};
-use xf_elements::{element_in, parts_at};
+use xf_def_syntax::{Form, Kind, Part};
+use xf_def_ui::{Item, ItemList};
 use xf_eval::EvalFault;
+use xf_eval_context::{Inside, Over, text_in};
+use xf_form_elements::{element_in, parts_at};
 use xf_name::Word;
-use xf_ui::{Item, ItemList};
 
 /// What is looked for in an item.
 #[derive(Clone, Copy, Debug, PartialEq, Eq)]

@@ -1,19 +1,19 @@
 //! The items of an item set (XForms 1.1, section 9.3.3): one for each node that it selects.
 
 ghost use Rattle.std.specs.Prelude.{◌≡◌, Some};
-ghost use Rattle.xf_plain_values.specs.Bounded.{GivesBounded};
-ghost use Rattle.xf_ui.specs.Elements.{element_at};
-ghost use Rattle.xf_ui.specs.Interface.{interface_of};
-ghost use Rattle.xf_ui.specs.Items as ui;
-ghost use Rattle.xf_context.specs.Inside.{seen_inside};
-ghost use Rattle.xf_context.specs.Over.{around_over};
+ghost use Rattle.xf_def_values.specs.Bounded.{GivesBounded};
+ghost use Rattle.xf_def_ui.specs.Elements.{element_at};
+ghost use Rattle.xf_def_ui.specs.Interface.{interface_of};
+ghost use Rattle.xf_def_ui.specs.Items as ui;
+ghost use Rattle.xf_eval_context.specs.Inside.{seen_inside};
+ghost use Rattle.xf_eval_context.specs.Over.{around_over};
 ghost use Rattle.xf_items.specs.Items as items;
 
 use crate::labels::push_item;
-use xf_context::{Inside, Over, Place, all_at, binding_at, context_in, standing_in};
-use xf_doc::{NodeId, NodeList};
+use xf_def_forest::{NodeId, NodeList};
+use xf_def_ui::ItemList;
 use xf_eval::EvalFault;
-use xf_ui::ItemList;
+use xf_eval_context::{Inside, Over, Place, all_at, binding_at, context_in, standing_in};
 
 /// Puts the items of an item set behind others.
 pub(crate) fn push_set(

@@ -2,11 +2,11 @@
 
 ghost use Rattle.std.specs.Prelude.{◌≡◌, bytes_eq, not};
 ghost use Rattle.std.specs.List.{list_any};
-ghost use Rattle.xf_ui.specs.Items.{allows, has_value, is_chosen, may_be_set, words};
+ghost use Rattle.xf_def_ui.specs.Items.{allows, has_value, is_chosen, may_be_set, words};
 ghost use Rattle.xf_items.specs.Words.{is_other, is_word};
 
+use xf_def_ui::Item;
 use xf_num::is_space;
-use xf_ui::Item;
 
 /// Whether a text may be set: other texts are allowed, or the items allow it.
 pub fn may_be_set(many: bool, is_free: bool, items: &[Item], text: &str) -> bool

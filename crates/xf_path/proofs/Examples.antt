@@ -12,17 +12,17 @@ use Rattle.xf_table.specs.Contents.{function_entries}
 use Rattle.xf_name.specs.Bindings.{Bindings}
 use Rattle.xf_name.specs.declared.axis.Axis.{Axis}
 use Rattle.xf_name.specs.declared.axis.Axis.TheVariants as axis
-use Rattle.xf_ast.specs.declared.expr.Operator.{Operator}
-use Rattle.xf_ast.specs.declared.expr.Operator.TheVariants as o
-use Rattle.xf_ast.specs.declared.expr.Start.TheVariants.{Root, Context}
-use Rattle.xf_ast.specs.declared.expr.Test.{Test}
-use Rattle.xf_ast.specs.declared.expr.Test.TheVariants as test
-use Rattle.xf_ast.specs.declared.expr.Expr.{Expr}
-use Rattle.xf_ast.specs.declared.expr.Expr.TheVariants as e
-use Rattle.xf_ast.specs.declared.expr.Expr.TheOpen.{Expr-F}
-use Rattle.xf_ast.specs.declared.expr.Expr.TheFolds.{fold-roll-Expr}
-use Rattle.xf_ast.specs.declared.expr.Link.{Link, roll-Link}
-use Rattle.xf_ast.specs.declared.expr.Step.{Step, roll-Step}
+use Rattle.xf_def_syntax.specs.declared.expr.Operator.{Operator}
+use Rattle.xf_def_syntax.specs.declared.expr.Operator.TheVariants as o
+use Rattle.xf_def_syntax.specs.declared.expr.Start.TheVariants.{Root, Context}
+use Rattle.xf_def_syntax.specs.declared.expr.Test.{Test}
+use Rattle.xf_def_syntax.specs.declared.expr.Test.TheVariants as test
+use Rattle.xf_def_syntax.specs.declared.expr.Expr.{Expr}
+use Rattle.xf_def_syntax.specs.declared.expr.Expr.TheVariants as e
+use Rattle.xf_def_syntax.specs.declared.expr.Expr.TheOpen.{Expr-F}
+use Rattle.xf_def_syntax.specs.declared.expr.Expr.TheFolds.{fold-roll-Expr}
+use Rattle.xf_def_syntax.specs.declared.expr.Link.{Link, roll-Link}
+use Rattle.xf_def_syntax.specs.declared.expr.Step.{Step, roll-Step}
 use Rattle.xf_path.specs.declared.fault.ExprKind.TheVariants.{Syntax, Prefix, Long, Deep, Arity, UnknownFunction, ClockOrRandom}
 use Rattle.xf_path.specs.declared.fault.ParseFault.{ParseFault}
 use Rattle.xf_path.specs.declared.fault.ParseFault.TheVariants as fault

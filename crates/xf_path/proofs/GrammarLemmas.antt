@@ -4,9 +4,9 @@ use Rattle.std.specs.Prelude.{Result}
 use Rattle.xf_name.specs.Bindings.{Bindings}
 use Rattle.xf_table.specs.Rows.{code_of}
 use Rattle.xf_table.specs.Contents.{function_entries}
-use Rattle.xf_ast.specs.declared.expr.Operator.{Operator}
-use Rattle.xf_ast.specs.declared.expr.Expr.{Expr}
-use Rattle.xf_ast.specs.declared.expr.Link.{Link, roll-Link}
+use Rattle.xf_def_syntax.specs.declared.expr.Operator.{Operator}
+use Rattle.xf_def_syntax.specs.declared.expr.Expr.{Expr}
+use Rattle.xf_def_syntax.specs.declared.expr.Link.{Link, roll-Link}
 use Rattle.xf_path.specs.declared.fault.ExprKind.{ExprKind}
 use Rattle.xf_path.specs.declared.fault.ExprKind.TheVariants.{Deep}
 use Rattle.xf_path.specs.declared.fault.ParseFault.{ParseFault}

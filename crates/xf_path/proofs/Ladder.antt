@@ -5,9 +5,9 @@ use Rattle.std.proofs.lemmas.Bool.Decides.{eqb_tells}
 use Rattle.std.proofs.lemmas.Grind.{common_steps}
 use Rattle.xf_base.specs.Limits.{expression_limit}
 use Rattle.xf_name.specs.Bindings.{Bindings}
-use Rattle.xf_ast.specs.declared.expr.Operator.{Operator}
-use Rattle.xf_ast.specs.declared.expr.Expr.{Expr}
-use Rattle.xf_ast.specs.declared.expr.Link.{Link}
+use Rattle.xf_def_syntax.specs.declared.expr.Operator.{Operator}
+use Rattle.xf_def_syntax.specs.declared.expr.Expr.{Expr}
+use Rattle.xf_def_syntax.specs.declared.expr.Link.{Link}
 use Rattle.xf_path.specs.Tokens.{Token}
 use Rattle.xf_path.specs.Reading.{Outcome, Rule, and_then, ◌>>=◌, kind_of, text_of, pure}
 use Rattle.xf_path.specs.Operators.{operator_of, operator_at, of_rank, rank_of, more_links, chain, chain_of}

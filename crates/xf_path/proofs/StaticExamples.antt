@@ -1,10 +1,10 @@
 -- Worked static expressions.
 use Rattle.std.proofs.Common.{◌≡◌, ℕ, true, false, List, [], ◌∷◌, codes, refl, Some, None, pos}
-use Rattle.xf_ast.specs.declared.expr.Expr.TheOpen.{Expr-F}
-use Rattle.xf_ast.specs.declared.expr.Operator.{Operator}
-use Rattle.xf_ast.specs.declared.expr.Operator.TheVariants as operator
-use Rattle.xf_ast.specs.declared.expr.Start.TheVariants as start
-use Rattle.xf_ast.specs.declared.expr.Test.TheVariants as test
+use Rattle.xf_def_syntax.specs.declared.expr.Expr.TheOpen.{Expr-F}
+use Rattle.xf_def_syntax.specs.declared.expr.Operator.{Operator}
+use Rattle.xf_def_syntax.specs.declared.expr.Operator.TheVariants as operator
+use Rattle.xf_def_syntax.specs.declared.expr.Start.TheVariants as start
+use Rattle.xf_def_syntax.specs.declared.expr.Test.TheVariants as test
 use Rattle.xf_name.specs.declared.axis.Axis.TheVariants as axis
 use Rattle.xf_table.specs.Contents.{function_entries}
 use Rattle.xf_path.specs.StaticParts.{Static}

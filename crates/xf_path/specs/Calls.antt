@@ -10,13 +10,13 @@ use Rattle.xf_name.specs.Bindings.{Bindings, resolved}
 use Rattle.xf_name.specs.declared.qname.QName.{QName}
 use Rattle.xf_name.specs.declared.fault.NameFault.{NameFault}
 use Rattle.xf_name.specs.declared.fault.NameFault.TheVariants as name
-use Rattle.xf_ast.specs.declared.expr.Operator.{Operator}
-use Rattle.xf_ast.specs.declared.expr.Operator.TheVariants as o
-use Rattle.xf_ast.specs.declared.expr.Expr.{Expr}
-use Rattle.xf_ast.specs.declared.expr.Expr.TheVariants as e
-use Rattle.xf_ast.specs.declared.expr.Expr.TheOpen.{Expr-F, Link-F}
-use Rattle.xf_ast.specs.declared.expr.Expr.TheFolds.{fold-Expr, fold-Link}
-use Rattle.xf_ast.specs.declared.expr.Link.{Link}
+use Rattle.xf_def_syntax.specs.declared.expr.Operator.{Operator}
+use Rattle.xf_def_syntax.specs.declared.expr.Operator.TheVariants as o
+use Rattle.xf_def_syntax.specs.declared.expr.Expr.{Expr}
+use Rattle.xf_def_syntax.specs.declared.expr.Expr.TheVariants as e
+use Rattle.xf_def_syntax.specs.declared.expr.Expr.TheOpen.{Expr-F, Link-F}
+use Rattle.xf_def_syntax.specs.declared.expr.Expr.TheFolds.{fold-Expr, fold-Link}
+use Rattle.xf_def_syntax.specs.declared.expr.Link.{Link}
 use Rattle.xf_path.specs.declared.fault.ExprKind.{ExprKind}
 use Rattle.xf_path.specs.declared.fault.ExprKind.TheVariants as kind
 use Rattle.xf_path.specs.declared.token.Kind.{Kind}

@@ -3,8 +3,8 @@
 use Rattle.std.specs.Prelude.{ℕ, zero, suc, if◌then◌else◌, nat_lt, List, length, Result, Ok, Err}
 use Rattle.xf_base.specs.Limits.{expression_limit, nesting_limit}
 use Rattle.xf_name.specs.Bindings.{Bindings}
-use Rattle.xf_ast.specs.declared.expr.Expr.{Expr}
-use Rattle.xf_ast.specs.declared.expr.Expr.TheVariants as e
+use Rattle.xf_def_syntax.specs.declared.expr.Expr.{Expr}
+use Rattle.xf_def_syntax.specs.declared.expr.Expr.TheVariants as e
 use Rattle.xf_path.specs.declared.fault.ExprKind.TheVariants.{Syntax, Long, Deep}
 use Rattle.xf_path.specs.declared.fault.ParseFault.{ParseFault}
 use Rattle.xf_path.specs.declared.fault.ParseFault.TheVariants as fault

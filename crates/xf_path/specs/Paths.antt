@@ -3,10 +3,10 @@
 use Rattle.std.specs.Prelude.{ℕ, zero, suc, Bool, true, false, List, [], ◌∷◌, ◌++◌, Option, Some, None}
 use Rattle.xf_base.specs.Limits.{expression_limit}
 use Rattle.xf_name.specs.Bindings.{Bindings}
-use Rattle.xf_ast.specs.declared.expr.Start.TheVariants as start
-use Rattle.xf_ast.specs.declared.expr.Expr.{Expr}
-use Rattle.xf_ast.specs.declared.expr.Expr.TheVariants as e
-use Rattle.xf_ast.specs.declared.expr.Step.{Step}
+use Rattle.xf_def_syntax.specs.declared.expr.Start.TheVariants as start
+use Rattle.xf_def_syntax.specs.declared.expr.Expr.{Expr}
+use Rattle.xf_def_syntax.specs.declared.expr.Expr.TheVariants as e
+use Rattle.xf_def_syntax.specs.declared.expr.Step.{Step}
 use Rattle.xf_path.specs.declared.token.Kind.{Kind}
 use Rattle.xf_path.specs.declared.token.Kind.TheVariants as k
 use Rattle.xf_path.specs.Reading.{Rule, ◌>>=◌, ◌>>◌, pure, next_kind, next_place, pass_next}

@@ -4,8 +4,8 @@ use Rattle.std.specs.Prelude.{ℕ, ◌==◌, option_map, Bool, true, false, if�
 use Rattle.std.specs.Str.{chars}
 use Rattle.xf_num.specs.Written.{read_at}
 use Rattle.xf_name.specs.Bindings.{Bindings}
-use Rattle.xf_ast.specs.declared.expr.Expr.{Expr}
-use Rattle.xf_ast.specs.declared.expr.Expr.TheVariants as e
+use Rattle.xf_def_syntax.specs.declared.expr.Expr.{Expr}
+use Rattle.xf_def_syntax.specs.declared.expr.Expr.TheVariants as e
 use Rattle.xf_path.specs.declared.token.Kind.{Kind}
 use Rattle.xf_path.specs.declared.token.Kind.TheVariants as k
 use Rattle.xf_path.specs.Reading.{Rule, kind_of, text_of, ◌>>=◌, ◌>>◌, pure, next_kind, next_place, take_next, pass_next, close}

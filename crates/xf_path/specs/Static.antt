@@ -3,13 +3,13 @@
 -- event.
 use Rattle.std.specs.Prelude.{ℕ, Bool, true, false, not, List, length, Option, Some, None}
 use Rattle.std.specs.List.{list_any}
-use Rattle.xf_ast.specs.declared.expr.Expr.{Expr}
-use Rattle.xf_ast.specs.declared.expr.Expr.TheOpen.{Expr-F, Link-F, Step-F}
-use Rattle.xf_ast.specs.declared.expr.Expr.TheFolds.{fold-Expr, fold-Link, fold-Step}
-use Rattle.xf_ast.specs.declared.expr.Link.{Link}
-use Rattle.xf_ast.specs.declared.expr.Step.{Step}
-use Rattle.xf_ast.specs.declared.expr.Operator.{Operator}
-use Rattle.xf_ast.specs.declared.expr.Operator.TheVariants.{Union}
+use Rattle.xf_def_syntax.specs.declared.expr.Expr.{Expr}
+use Rattle.xf_def_syntax.specs.declared.expr.Expr.TheOpen.{Expr-F, Link-F, Step-F}
+use Rattle.xf_def_syntax.specs.declared.expr.Expr.TheFolds.{fold-Expr, fold-Link, fold-Step}
+use Rattle.xf_def_syntax.specs.declared.expr.Link.{Link}
+use Rattle.xf_def_syntax.specs.declared.expr.Step.{Step}
+use Rattle.xf_def_syntax.specs.declared.expr.Operator.{Operator}
+use Rattle.xf_def_syntax.specs.declared.expr.Operator.TheVariants.{Union}
 use Rattle.xf_path.specs.StaticParts.{Static, LinkStatic, or_else, place_if, first_of, first_fault, first_in_predicates, first_in_links, first_in_steps, call_fault, call_gives_nodes, is_plain_call}
 
 -- ---- operators

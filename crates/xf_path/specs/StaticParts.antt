@@ -3,7 +3,7 @@ use Rattle.std.specs.Prelude.{ℕ, Bool, true, false, ◌&&◌, not, ◌==◌, L
 use Rattle.std.specs.List.{list_any}
 use Rattle.xf_table.specs.Contents.{function_entries}
 use Rattle.xf_table.specs.Places.{name_at}
-use Rattle.xf_ast.specs.declared.expr.Operator.{Operator}
+use Rattle.xf_def_syntax.specs.declared.expr.Operator.{Operator}
 
 -- of an expression: where it begins, and the places of the first parts that are not allowed
 pub record Static : Type 0 where

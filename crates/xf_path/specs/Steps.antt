@@ -10,10 +10,10 @@ use Rattle.xf_name.specs.declared.axis.Axis.TheVariants as axis
 use Rattle.xf_name.specs.declared.qname.QName.{QName}
 use Rattle.xf_name.specs.declared.fault.NameFault.{NameFault}
 use Rattle.xf_name.specs.declared.fault.NameFault.TheVariants as name
-use Rattle.xf_ast.specs.declared.expr.Test.{Test}
-use Rattle.xf_ast.specs.declared.expr.Test.TheVariants as test
-use Rattle.xf_ast.specs.declared.expr.Expr.{Expr}
-use Rattle.xf_ast.specs.declared.expr.Step.{Step, roll-Step}
+use Rattle.xf_def_syntax.specs.declared.expr.Test.{Test}
+use Rattle.xf_def_syntax.specs.declared.expr.Test.TheVariants as test
+use Rattle.xf_def_syntax.specs.declared.expr.Expr.{Expr}
+use Rattle.xf_def_syntax.specs.declared.expr.Step.{Step, roll-Step}
 use Rattle.xf_path.specs.declared.fault.ExprKind.TheVariants.{Syntax, Prefix}
 use Rattle.xf_path.specs.declared.token.Kind.{Kind}
 use Rattle.xf_path.specs.declared.token.Kind.TheVariants as k

@@ -10,7 +10,7 @@ ghost use Rattle.xf_path.specs.Reading.{IsFault, place_of, text_of};
 use crate::fault::{ExprKind, ParseFault};
 use crate::tokens::Tokens;
 use crate::words::is_clock;
-use xf_ast::{Expr, Link, Operator};
+use xf_def_syntax::{Expr, Link, Operator};
 use xf_name::{NameFault, Prefixes};
 use xf_table::Row;
 use xf_table::functions::{GIVES_NODES, TAKES_NODES, rows};

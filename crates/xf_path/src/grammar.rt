@@ -20,9 +20,9 @@ use crate::words::{
     begins_primary, begins_step, is_comma, next_rank, opens_predicate, operator_at, separator,
 };
 use std::alloc::Global;
-use xf_ast::{Axis, Expr, ExprList, Link, LinkList, Start, Step, StepList};
 use xf_base::limits::{EXPRESSION_LIMIT, NESTING_LIMIT};
 use xf_base::{Boxed, Items};
+use xf_def_syntax::{Axis, Expr, ExprList, Link, LinkList, Start, Step, StepList};
 use xf_name::Prefixes;
 use xf_num::Decimals;
 use xf_table::find;

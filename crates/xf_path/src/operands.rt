@@ -10,8 +10,8 @@ use crate::fault::ParseFault;
 use crate::lexer::first_char;
 use crate::tokens::Tokens;
 use std::alloc::{AllocError, Global};
-use xf_ast::{Expr, ExprList, LinkList};
 use xf_base::Boxed;
+use xf_def_syntax::{Expr, ExprList, LinkList};
 use xf_name::Word;
 use xf_num::{Decimals, Num};
 

@@ -7,7 +7,7 @@ ghost use Rattle.xf_table.specs.Places.{name_at};
 ghost use Rattle.xf_path.specs.StaticParts as parts;
 ghost use Rattle.xf_path.specs.Static as spec;
 
-use xf_ast::{Expr, Link, Operator, Step};
+use xf_def_syntax::{Expr, Link, Operator, Step};
 use xf_table::functions::rows;
 
 // ---- computed expressions

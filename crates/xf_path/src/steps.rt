@@ -11,8 +11,8 @@ use crate::token::Kind;
 use crate::tokens::Tokens;
 use crate::words::{axis_called, type_called};
 use std::alloc::Global;
-use xf_ast::{Axis, Step, Test};
 use xf_base::Items;
+use xf_def_syntax::{Axis, Step, Test};
 use xf_name::{NameFault, Prefixes, Word, at_colon};
 
 // ---- brackets

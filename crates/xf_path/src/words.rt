@@ -8,7 +8,7 @@ ghost use Rattle.xf_path.specs.Primary as primary;
 ghost use Rattle.xf_path.specs.Operators as operators;
 
 use crate::token::Kind;
-use xf_ast::{Axis, Operator, Test};
+use xf_def_syntax::{Axis, Operator, Test};
 
 /// The axis of a name.
 #[tactic(auto, unfolding(crate::specs::Steps::axis_called))]

@@ -3,34 +3,34 @@
 use Rattle.std.proofs.Common.{◌≡◌, ℕ, ◌+◌, ◌^◌, ◌<◌, Bool, true, false, cond, not, ◌||◌, ◌&&◌, List, [], ◌∷◌, ◌++◌, map, length, Option, Some, None, nat_lt, refl, sym, ap, ◌∙◌, subst, inl, inr}
 use Rattle.std.specs.Prelude.{◌⊎◌, filter, fold, is_none, count_by, sum_by}
 use Rattle.std.specs.List.{list_any, list_all}
-use Rattle.xf_ast.specs.declared.form.Tables.{Tables}
-use Rattle.xf_doc.specs.declared.content.Node.{Node}
-use Rattle.xf_doc.specs.declared.content.Content.{Content}
-use Rattle.xf_doc.specs.declared.fault.TreeFault.TheVariants as tree
-use Rattle.xf_doc.specs.Forest.{Forest, is_root}
-use Rattle.xf_doc.specs.Limits.{limits, node_count, all_size, passed_by_all, size_of}
-use Rattle.xf_doc.specs.Visit.{Visit, still_above, visits, visits_from}
+use Rattle.xf_def_syntax.specs.declared.form.Tables.{Tables}
+use Rattle.xf_def_forest.specs.declared.content.Node.{Node}
+use Rattle.xf_def_forest.specs.declared.content.Content.{Content}
+use Rattle.xf_def_forest.specs.declared.fault.TreeFault.TheVariants as tree
+use Rattle.xf_def_forest.specs.Forest.{Forest, is_root}
+use Rattle.xf_def_forest.specs.Limits.{limits, node_count, all_size, passed_by_all, size_of}
+use Rattle.xf_def_forest.specs.Visit.{Visit, still_above, visits, visits_from}
 use Rattle.xf_funcs.specs.Called.{called}
-use Rattle.xf_lang.specs.declared.fault.EvalFault.{EvalFault}
-use Rattle.xf_lang.specs.declared.fault.EvalFault.TheVariants as eval
-use Rattle.xf_lang.specs.Given.{Given}
-use Rattle.xf_lang.proofs.VisitFacts.{no, none-some, some-same}
-use Rattle.xf_model.specs.Rules.{Scope}
-use Rattle.xf_model.specs.Applied.{Entry, is_calculate}
-use Rattle.xf_model.specs.Entries.{is_computed, text_of, value_of}
-use Rattle.xf_model.specs.Settled.{Passed, bounds, calculates, holding, if_passed, is_long, is_over, long, passed_over}
-use Rattle.xf_model.specs.Settled as passed
-use Rattle.xf_model.specs.Pertinent.{AllOf}
-use Rattle.xf_model.proofs.EachLemmas.{each_then, each_both}
-use Rattle.xf_agree_laws.specs.Settles.{IsSolid}
-use Rattle.xf_agree_laws.specs.InTurn.{IsFitting, tells_long}
-use Rattle.xf_agree_laws.proofs.FormEntries.{all-filter}
-use Rattle.xf_agree_laws.proofs.FormSettable.{entries_solid}
-use Rattle.xf_agree_laws.proofs.TurnLists.{none-any}
-use Rattle.xf_settle_laws.specs.Written.{written}
-use Rattle.xf_settle_laws.proofs.MeasureLaws.{all_done}
-use Rattle.xf_machine_laws.proofs.WrittenContents.{all-written}
-use Rattle.xf_written_laws.proofs.TurnLaws.{all-kept, same-text, turn_passed}
+use Rattle.xf_def_xpath.specs.declared.fault.EvalFault.{EvalFault}
+use Rattle.xf_def_xpath.specs.declared.fault.EvalFault.TheVariants as eval
+use Rattle.xf_def_xpath.specs.Given.{Given}
+use Rattle.xf_def_xpath.proofs.VisitFacts.{no, none-some, some-same}
+use Rattle.xf_def_model.specs.Rules.{Scope}
+use Rattle.xf_def_model.specs.Applied.{Entry, is_calculate}
+use Rattle.xf_def_model.specs.Entries.{is_computed, text_of, value_of}
+use Rattle.xf_def_model.specs.Settled.{Passed, bounds, calculates, holding, if_passed, is_long, is_over, long, passed_over}
+use Rattle.xf_def_model.specs.Settled as passed
+use Rattle.xf_def_model.specs.Pertinent.{AllOf}
+use Rattle.xf_def_model.proofs.EachLemmas.{each_then, each_both}
+use Rattle.xf_law_recalculation.specs.Agree.Settles.{IsSolid}
+use Rattle.xf_law_recalculation.specs.Agree.InTurn.{IsFitting, tells_long}
+use Rattle.xf_law_recalculation.proofs.AgreeLemmas.FormEntries.{all-filter}
+use Rattle.xf_law_recalculation.proofs.AgreeLemmas.FormSettable.{entries_solid}
+use Rattle.xf_law_recalculation.proofs.AgreeLemmas.TurnLists.{none-any}
+use Rattle.xf_law_forests.specs.Settle.Written.{written}
+use Rattle.xf_law_forests.proofs.SettleLemmas.MeasureLaws.{all_done}
+use Rattle.xf_law_machine.proofs.BehavioursLemmas.WrittenContents.{all-written}
+use Rattle.xf_law_recalculation.proofs.WrittenLemmas.TurnLaws.{all-kept, same-text, turn_passed}
 use Rattle.xf_eval.specs.Live.{AroundStands}
 use Rattle.xf_binds.specs.Held.{held_by}
 use Rattle.xf_binds.specs.Kept.{valued_in}

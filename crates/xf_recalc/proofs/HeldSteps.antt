@@ -2,20 +2,20 @@
 use Rattle.std.proofs.Common.{◌≡◌, ℕ, zero, suc, ◌+◌, Bool, true, false, cond, ◌&&◌, ◌||◌, List, [], ◌∷◌, ◌++◌, map, length, take, drop, Option, Some, None, option_map, slice_get, refl, sym, ap, ◌∙◌, arith}
 use Rattle.std.specs.Prelude.{filter, is_none}
 use Rattle.std.specs.List.{list_all, list_any}
-use Rattle.xf_doc.specs.declared.content.Node.{Node}
-use Rattle.xf_doc.specs.Visit.{Visit}
-use Rattle.xf_doc.proofs.BackLaws.{and-true}
-use Rattle.xf_plain_values.specs.Bounded.{◌>>=◌}
+use Rattle.xf_def_forest.specs.declared.content.Node.{Node}
+use Rattle.xf_def_forest.specs.Visit.{Visit}
+use Rattle.xf_def_forest.proofs.BackLaws.{and-true}
+use Rattle.xf_def_values.specs.Bounded.{◌>>=◌}
 use Rattle.xf_base.specs.Limits.{string_limit}
-use Rattle.xf_lang.specs.declared.value.Value.{Value}
-use Rattle.xf_lang.specs.Conversions.{truth_of}
-use Rattle.xf_lang.proofs.VisitFacts.{no, none-some, some-same}
-use Rattle.xf_form_machine.specs.Behave.{truly}
-use Rattle.xf_model.specs.Entries.{is_computed, text_of, value_of}
-use Rattle.xf_model.specs.Pertinent.{AllOf}
-use Rattle.xf_model.specs.Rules.{Scope}
-use Rattle.xf_model.specs.Applied.{Entry, is_calculate}
-use Rattle.xf_model.specs.Settled.{Valued, bounds, calculates, is_long, values_over}
+use Rattle.xf_def_xpath.specs.declared.value.Value.{Value}
+use Rattle.xf_def_xpath.specs.Conversions.{truth_of}
+use Rattle.xf_def_xpath.proofs.VisitFacts.{no, none-some, some-same}
+use Rattle.xf_def_machine.specs.Behave.{truly}
+use Rattle.xf_def_model.specs.Entries.{is_computed, text_of, value_of}
+use Rattle.xf_def_model.specs.Pertinent.{AllOf}
+use Rattle.xf_def_model.specs.Rules.{Scope}
+use Rattle.xf_def_model.specs.Applied.{Entry, is_calculate}
+use Rattle.xf_def_model.specs.Settled.{Valued, bounds, calculates, is_long, values_over}
 use Rattle.xf_binds.specs.Held.{Held, held_by}
 use Rattle.xf_binds.specs.Kept.{valued_in, valued_of}
 use Rattle.xf_recalc.specs.Turns.{found_if, found_over, found_step, is_there, is_there_at, truth_if}

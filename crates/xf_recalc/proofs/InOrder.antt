@@ -3,42 +3,42 @@ use Rattle.std.proofs.Common.{◌≡◌, ℕ, ◌^◌, ◌<◌, ◌==◌, Bool, 
 use Rattle.std.specs.Prelude.{filter}
 use Rattle.std.specs.List.{list_all, list_any}
 use Rattle.std.proofs.lemmas.Bool.{ltb-true}
-use Rattle.xf_ast.specs.declared.form.Tables.{Tables}
-use Rattle.xf_doc.specs.Forest.{Forest, is_text}
-use Rattle.xf_doc.specs.Order.{in_order}
-use Rattle.xf_doc.specs.Shape.{erased, shape_of}
-use Rattle.xf_doc.specs.Visit.{Visit, has, visits}
-use Rattle.xf_doc.proofs.BackLaws.{and-true, not-true}
-use Rattle.xf_doc.proofs.OrderLaws.{visits-different}
+use Rattle.xf_def_syntax.specs.declared.form.Tables.{Tables}
+use Rattle.xf_def_forest.specs.Forest.{Forest, is_text}
+use Rattle.xf_def_forest.specs.Order.{in_order}
+use Rattle.xf_def_forest.specs.Shape.{erased, shape_of}
+use Rattle.xf_def_forest.specs.Visit.{Visit, has, visits}
+use Rattle.xf_def_forest.proofs.BackLaws.{and-true, not-true}
+use Rattle.xf_def_forest.proofs.OrderLaws.{visits-different}
 use Rattle.xf_funcs.specs.Called.{called}
 use Rattle.xf_graph.specs.Order.{IsOrder}
 use Rattle.xf_graph.specs.Edges as graph
-use Rattle.xf_lang.specs.Agree.{are_apart, numbers_of, untexted}
-use Rattle.xf_lang.specs.Given.{Given}
-use Rattle.xf_lang.proofs.VisitFacts.{no, or-right, present, self-same, turned}
-use Rattle.xf_model.specs.Rules.{Scope}
-use Rattle.xf_model.specs.Applied.{Entry, all_entries}
-use Rattle.xf_model.specs.Circular.{by_nodes, calculated, graph_over}
-use Rattle.xf_model.specs.Entries.{reads_of}
-use Rattle.xf_model.specs.Settled.{bounds, calculates}
-use Rattle.xf_model.specs.Pertinent.{AllOf}
-use Rattle.xf_model.proofs.CircularLemmas.{StandsAt, length-mapped, size-of_graph}
-use Rattle.xf_model.proofs.EachLemmas.{each_then}
-use Rattle.xf_agree_laws.specs.InTurn.{AreSingle, AtPlaces}
-use Rattle.xf_agree_laws.specs.Settles.{IsSolid}
-use Rattle.xf_agree_laws.proofs.FormInTurn as form
-use Rattle.xf_agree_laws.proofs.FormSettable.{entries_solid}
-use Rattle.xf_agree_laws.proofs.FormSettled.{applied-parts}
-use Rattle.xf_agree_laws.proofs.InTurnLimits.{any-stands}
-use Rattle.xf_agree_laws.proofs.TurnLists.{each-by_nodes, each-stands, only-one}
+use Rattle.xf_def_xpath.specs.Agree.{are_apart, numbers_of, untexted}
+use Rattle.xf_def_xpath.specs.Given.{Given}
+use Rattle.xf_def_xpath.proofs.VisitFacts.{no, or-right, present, self-same, turned}
+use Rattle.xf_def_model.specs.Rules.{Scope}
+use Rattle.xf_def_model.specs.Applied.{Entry, all_entries}
+use Rattle.xf_def_model.specs.Circular.{by_nodes, calculated, graph_over}
+use Rattle.xf_def_model.specs.Entries.{reads_of}
+use Rattle.xf_def_model.specs.Settled.{bounds, calculates}
+use Rattle.xf_def_model.specs.Pertinent.{AllOf}
+use Rattle.xf_def_model.proofs.CircularLemmas.{StandsAt, length-mapped, size-of_graph}
+use Rattle.xf_def_model.proofs.EachLemmas.{each_then}
+use Rattle.xf_law_recalculation.specs.Agree.InTurn.{AreSingle, AtPlaces}
+use Rattle.xf_law_recalculation.specs.Agree.Settles.{IsSolid}
+use Rattle.xf_law_recalculation.proofs.AgreeLemmas.FormInTurn as form
+use Rattle.xf_law_recalculation.proofs.AgreeLemmas.FormSettable.{entries_solid}
+use Rattle.xf_law_recalculation.proofs.AgreeLemmas.FormSettled.{applied-parts}
+use Rattle.xf_law_recalculation.proofs.AgreeLemmas.InTurnLimits.{any-stands}
+use Rattle.xf_law_recalculation.proofs.AgreeLemmas.TurnLists.{each-by_nodes, each-stands, only-one}
 use Rattle.xf_binds.specs.declared.web.Asks.{Asks}
-use Rattle.xf_rebuild.specs.Found.{is_small}
-use Rattle.xf_rebuild.specs.Links.{Source, calculated_nodes, nodes_in, source_on, sources_in}
-use Rattle.xf_rebuild.specs.Order.{IsInOrder, IsLinked, nodes_of}
-use Rattle.xf_rebuild.specs.Web.{asks_of}
-use Rattle.xf_rebuild.proofs.Rebuilds.{entries-there}
-use Rattle.xf_rebuild.proofs.Told.{links_defined}
-use Rattle.xf_rebuild.proofs.Turns.{order-found}
+use Rattle.xf_binds_rebuild.specs.Found.{is_small}
+use Rattle.xf_binds_rebuild.specs.Links.{Source, calculated_nodes, nodes_in, source_on, sources_in}
+use Rattle.xf_binds_rebuild.specs.Order.{IsInOrder, IsLinked, nodes_of}
+use Rattle.xf_binds_rebuild.specs.Web.{asks_of}
+use Rattle.xf_binds_rebuild.proofs.Rebuilds.{entries-there}
+use Rattle.xf_binds_rebuild.proofs.Told.{links_defined}
+use Rattle.xf_binds_rebuild.proofs.Turns.{order-found}
 use Rattle.xf_binds.specs.declared.turns.Turn.{Turn}
 use Rattle.xf_recalc.specs.Settles.{MaySettle, scope_in}
 use Rattle.xf_binds.specs.Placed.{AreInOrder, Placed, placed_of, placed_on}

@@ -3,37 +3,37 @@ use Rattle.std.proofs.Common.{◌≡◌, ℕ, zero, suc, ◌==◌, Bool, true, f
 use Rattle.std.specs.Prelude.{◌⊎◌, option_and_then}
 use Rattle.std.specs.List.{list_any}
 use Rattle.std.proofs.lemmas.Bool.{eqb-true, or_left, or_right}
-use Rattle.xf_ast.specs.declared.expr.Expr.{Expr}
-use Rattle.xf_ast.specs.declared.form.Bind.{Bind}
-use Rattle.xf_ast.specs.declared.form.Tables.{Tables}
-use Rattle.xf_doc.specs.Forest.{Forest}
-use Rattle.xf_doc.specs.Visit.{Visit, visits}
-use Rattle.xf_doc.specs.Shape.{has_elements, shape}
-use Rattle.xf_doc.proofs.BackLaws.{and-true}
+use Rattle.xf_def_syntax.specs.declared.expr.Expr.{Expr}
+use Rattle.xf_def_syntax.specs.declared.form.Bind.{Bind}
+use Rattle.xf_def_syntax.specs.declared.form.Tables.{Tables}
+use Rattle.xf_def_forest.specs.Forest.{Forest}
+use Rattle.xf_def_forest.specs.Visit.{Visit, visits}
+use Rattle.xf_def_forest.specs.Shape.{has_elements, shape}
+use Rattle.xf_def_forest.proofs.BackLaws.{and-true}
 use Rattle.xf_funcs.specs.Called.{called}
-use Rattle.xf_lang.specs.declared.value.Value.{Value}
-use Rattle.xf_lang.specs.Conversions.{truth_of}
-use Rattle.xf_lang.specs.Given.{Given}
-use Rattle.xf_lang.proofs.VisitFacts.{no, none-some, some-same, self-same, turned}
-use Rattle.xf_model.specs.declared.property.Property.{Property}
-use Rattle.xf_model.specs.declared.property.Property.TheVariants.{Kind, Calculate, Relevant, Readonly, Required, Constraint}
-use Rattle.xf_model.specs.Rules.{Scope, computed_of, rule_of}
-use Rattle.xf_model.specs.Applied.{Entry, Exception, all_entries, exception_at, exception_from, is_calculate, is_property, on_parent, or_later, place_of, sets_same, twice}
-use Rattle.xf_model.specs.Entries.{expression_in, expression_of, is_computed, value_by, value_of}
-use Rattle.xf_model.specs.Settled.{Valued, bounds}
-use Rattle.xf_model.specs.Pertinent.{AllOf, asking, is_same, placed_in, stands_as}
-use Rattle.xf_model.specs.Properties.{sets_on}
-use Rattle.xf_agree_laws.specs.Covered.{is_covered}
-use Rattle.xf_agree_laws.specs.FormSettles.{calculate_covered}
-use Rattle.xf_agree_laws.specs.Settles.{IsSolid}
-use Rattle.xf_agree_laws.proofs.FormSettled.{applied-parts}
-use Rattle.xf_agree_laws.proofs.TurnLists.{at-stands, got-stands}
-use Rattle.xf_marks_laws.specs.Instances.{standing}
-use Rattle.xf_marks_laws.specs.Outside.{shape_now}
-use Rattle.xf_marks_laws.proofs.OutsideLaws.{outside_stood_law}
-use Rattle.xf_since_laws.specs.Since.{Stood, changes_since, kept_of, scope_then}
-use Rattle.xf_since_laws.specs.Pertinent.{AreOrdered, settled_nodes}
-use Rattle.xf_since_laws.proofs.PassedWritten.{pertinent_truth}
+use Rattle.xf_def_xpath.specs.declared.value.Value.{Value}
+use Rattle.xf_def_xpath.specs.Conversions.{truth_of}
+use Rattle.xf_def_xpath.specs.Given.{Given}
+use Rattle.xf_def_xpath.proofs.VisitFacts.{no, none-some, some-same, self-same, turned}
+use Rattle.xf_def_model.specs.declared.property.Property.{Property}
+use Rattle.xf_def_model.specs.declared.property.Property.TheVariants.{Kind, Calculate, Relevant, Readonly, Required, Constraint}
+use Rattle.xf_def_model.specs.Rules.{Scope, computed_of, rule_of}
+use Rattle.xf_def_model.specs.Applied.{Entry, Exception, all_entries, exception_at, exception_from, is_calculate, is_property, on_parent, or_later, place_of, sets_same, twice}
+use Rattle.xf_def_model.specs.Entries.{expression_in, expression_of, is_computed, value_by, value_of}
+use Rattle.xf_def_model.specs.Settled.{Valued, bounds}
+use Rattle.xf_def_model.specs.Pertinent.{AllOf, asking, is_same, placed_in, stands_as}
+use Rattle.xf_def_model.specs.Properties.{sets_on}
+use Rattle.xf_law_recalculation.specs.Agree.Covered.{is_covered}
+use Rattle.xf_law_recalculation.specs.Agree.FormSettles.{calculate_covered}
+use Rattle.xf_law_recalculation.specs.Agree.Settles.{IsSolid}
+use Rattle.xf_law_recalculation.proofs.AgreeLemmas.FormSettled.{applied-parts}
+use Rattle.xf_law_recalculation.proofs.AgreeLemmas.TurnLists.{at-stands, got-stands}
+use Rattle.xf_law_recalculation.specs.Marks.Instances.{standing}
+use Rattle.xf_law_recalculation.specs.Marks.Outside.{shape_now}
+use Rattle.xf_law_recalculation.proofs.MarksLemmas.OutsideLaws.{outside_stood_law}
+use Rattle.xf_law_recalculation.specs.Since.Since.{Stood, changes_since, kept_of, scope_then}
+use Rattle.xf_law_recalculation.specs.Since.Pertinent.{AreOrdered, settled_nodes}
+use Rattle.xf_law_recalculation.proofs.SinceLemmas.PassedWritten.{pertinent_truth}
 use Rattle.xf_binds.specs.Held.{IsOnly, passes}
 use Rattle.xf_binds.specs.Kept.{Kept, entries_of, truth_from}
 use Rattle.xf_recalc.specs.Passes.{AreCoveredIn, ArePassed, AreTrue, MayPass}

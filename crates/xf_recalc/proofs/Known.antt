@@ -2,16 +2,16 @@
 use Rattle.std.proofs.Common.{◌≡◌, ℕ, zero, suc, Bool, true, false, cond, List, [], ◌∷◌, length, take, Option, Some, None, option_map, get_or, slice_get, slice_set, refl, sym, ap, ◌∙◌, subst, inl, inr}
 use Rattle.std.specs.Prelude.{◌⊎◌, not, option_and_then, replicate}
 use Rattle.xf_base.specs.Limits.{string_limit}
-use Rattle.xf_doc.specs.Visit.{Visit}
-use Rattle.xf_lang.specs.declared.value.Value.{Value}
-use Rattle.xf_lang.specs.Conversions.{truth_of}
-use Rattle.xf_lang.proofs.VisitFacts.{no, none-some, some-same}
-use Rattle.xf_model.specs.declared.property.Property.{Property}
-use Rattle.xf_model.specs.declared.property.Property.TheVariants.{Kind, Calculate, Relevant, Readonly, Required, Constraint}
-use Rattle.xf_model.specs.Rules.{Scope}
-use Rattle.xf_model.specs.Applied.{Entry, is_calculate, is_property}
-use Rattle.xf_model.specs.Entries.{is_computed, value_of}
-use Rattle.xf_model.specs.Settled.{calculates}
+use Rattle.xf_def_forest.specs.Visit.{Visit}
+use Rattle.xf_def_xpath.specs.declared.value.Value.{Value}
+use Rattle.xf_def_xpath.specs.Conversions.{truth_of}
+use Rattle.xf_def_xpath.proofs.VisitFacts.{no, none-some, some-same}
+use Rattle.xf_def_model.specs.declared.property.Property.{Property}
+use Rattle.xf_def_model.specs.declared.property.Property.TheVariants.{Kind, Calculate, Relevant, Readonly, Required, Constraint}
+use Rattle.xf_def_model.specs.Rules.{Scope}
+use Rattle.xf_def_model.specs.Applied.{Entry, is_calculate, is_property}
+use Rattle.xf_def_model.specs.Entries.{is_computed, value_of}
+use Rattle.xf_def_model.specs.Settled.{calculates}
 use Rattle.xf_binds.specs.Kept.{IsAlone, Kept, truth_at, truth_from, truth_if as kept_if}
 use Rattle.xf_recalc.specs.Known.{AreKnown, IsKnown, known_at}
 use Rattle.xf_recalc.specs.Passes.{AreTrue, IsKept, IsKnownBy, is_passed}

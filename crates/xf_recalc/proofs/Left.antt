@@ -1,10 +1,10 @@
 -- What stands after a recalculation that was refused: none, some or all of the settled texts were written.
 use Rattle.std.proofs.Common.{◌≡◌, List, sym, ap, ◌∙◌}
-use Rattle.xf_doc.specs.Forest.{Forest}
-use Rattle.xf_model.specs.Rules.{Scope}
-use Rattle.xf_model.specs.Applied.{Entry}
-use Rattle.xf_settle_laws.proofs.MeasureLaws.{all_done, nothing_done, written-none}
-use Rattle.xf_machine_laws.proofs.WrittenContents.{all-written}
+use Rattle.xf_def_forest.specs.Forest.{Forest}
+use Rattle.xf_def_model.specs.Rules.{Scope}
+use Rattle.xf_def_model.specs.Applied.{Entry}
+use Rattle.xf_law_forests.proofs.SettleLemmas.MeasureLaws.{all_done, nothing_done, written-none}
+use Rattle.xf_law_machine.proofs.BehavioursLemmas.WrittenContents.{all-written}
 use Rattle.xf_recalc.specs.Settles.{IsLeft, contents_in}
 use Rattle.xf_recalc.specs.Whole.{IsWritten}
 

@@ -3,12 +3,12 @@ use Rattle.std.proofs.Common.{◌≡◌, ℕ, zero, suc, ◌+◌, ◌<◌, ◌==
 use Rattle.std.specs.List.{list_any}
 use Rattle.std.proofs.lemmas.Bool.{or_left, or_right, eq-eqb}
 use Rattle.std.proofs.lemmas.List.{take-append-drop, drop_more}
-use Rattle.xf_lang.proofs.VisitFacts.{none-some, some-same}
-use Rattle.xf_model.specs.Applied.{Entry}
-use Rattle.xf_model.specs.Pertinent.{AllOf}
-use Rattle.xf_model.proofs.EachLemmas.{each_then, each_both, of_each}
-use Rattle.xf_agree_laws.specs.InTurn.{AreSingle}
-use Rattle.xf_agree_laws.proofs.TurnLists.{each-none, all-later}
+use Rattle.xf_def_xpath.proofs.VisitFacts.{none-some, some-same}
+use Rattle.xf_def_model.specs.Applied.{Entry}
+use Rattle.xf_def_model.specs.Pertinent.{AllOf}
+use Rattle.xf_def_model.proofs.EachLemmas.{each_then, each_both, of_each}
+use Rattle.xf_law_recalculation.specs.Agree.InTurn.{AreSingle}
+use Rattle.xf_law_recalculation.proofs.AgreeLemmas.TurnLists.{each-none, all-later}
 
 pub got-map : {X Y : Type 0} (f : X → Y) (xs : List X) (k : ℕ) (x : X) → slice_get xs k ≡ Some x → slice_get (map f xs) k ≡ Some (f x)
 got-map f [] k x h = none-some h

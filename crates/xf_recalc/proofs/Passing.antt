@@ -1,14 +1,14 @@
 -- The entry that is passed over in a turn: the calculate of its node.
 use Rattle.std.proofs.Common.{◌≡◌, ℕ, suc, ◌==◌, Bool, true, false, cond, List, [], ◌∷◌, length, take, Option, Some, None, option_map, slice_get, refl, sym, ap, ◌∙◌}
-use Rattle.xf_doc.proofs.BackLaws.{and-true}
-use Rattle.xf_lang.proofs.VisitFacts.{no, none-some, some-same}
-use Rattle.xf_model.specs.declared.property.Property.TheVariants.{Calculate}
-use Rattle.xf_model.specs.Applied.{Entry, is_calculate}
-use Rattle.xf_model.specs.Entries.{is_computed}
-use Rattle.xf_model.specs.Settled.{calculates}
-use Rattle.xf_model.specs.Properties.{sets_on}
-use Rattle.xf_agree_laws.specs.InTurn.{AreSingle}
-use Rattle.xf_agree_laws.proofs.TurnLists.{at-stands, got-stands, only-one}
+use Rattle.xf_def_forest.proofs.BackLaws.{and-true}
+use Rattle.xf_def_xpath.proofs.VisitFacts.{no, none-some, some-same}
+use Rattle.xf_def_model.specs.declared.property.Property.TheVariants.{Calculate}
+use Rattle.xf_def_model.specs.Applied.{Entry, is_calculate}
+use Rattle.xf_def_model.specs.Entries.{is_computed}
+use Rattle.xf_def_model.specs.Settled.{calculates}
+use Rattle.xf_def_model.specs.Properties.{sets_on}
+use Rattle.xf_law_recalculation.specs.Agree.InTurn.{AreSingle}
+use Rattle.xf_law_recalculation.proofs.AgreeLemmas.TurnLists.{at-stands, got-stands, only-one}
 use Rattle.xf_binds.specs.Held.{place_on}
 use Rattle.xf_recalc.specs.Passes.{is_passed, passed_at, passed_on}
 use Rattle.xf_recalc.proofs.Known.{calculate-at, calculate-computed}

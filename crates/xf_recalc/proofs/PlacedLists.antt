@@ -6,18 +6,18 @@ use Rattle.std.proofs.lemmas.List.{append-nil, append_assoc}
 use Rattle.xf_graph.specs.Edges.{has}
 use Rattle.xf_graph.specs.Order.{EachOnce}
 use Rattle.xf_graph.proofs.HasLists.{has_first, has_later}
-use Rattle.xf_lang.specs.Binding.{as_list}
-use Rattle.xf_lang.proofs.VisitFacts.{no, none-some, some-same}
-use Rattle.xf_model.specs.declared.property.Property.TheVariants.{Calculate}
-use Rattle.xf_model.specs.Applied.{Entry, is_calculate}
-use Rattle.xf_model.specs.Settled.{calculates}
-use Rattle.xf_model.specs.Pertinent.{AllOf}
-use Rattle.xf_model.specs.Properties.{sets_on}
-use Rattle.xf_model.proofs.CircularLemmas.{StandsAt, within-stands}
-use Rattle.xf_agree_laws.specs.InTurn.{AreSingle, AtPlaces}
-use Rattle.xf_agree_laws.proofs.TurnLists.{at-stands, each-at_place, each-none, got-stands, none-any}
+use Rattle.xf_def_xpath.specs.Binding.{as_list}
+use Rattle.xf_def_xpath.proofs.VisitFacts.{no, none-some, some-same}
+use Rattle.xf_def_model.specs.declared.property.Property.TheVariants.{Calculate}
+use Rattle.xf_def_model.specs.Applied.{Entry, is_calculate}
+use Rattle.xf_def_model.specs.Settled.{calculates}
+use Rattle.xf_def_model.specs.Pertinent.{AllOf}
+use Rattle.xf_def_model.specs.Properties.{sets_on}
+use Rattle.xf_def_model.proofs.CircularLemmas.{StandsAt, within-stands}
+use Rattle.xf_law_recalculation.specs.Agree.InTurn.{AreSingle, AtPlaces}
+use Rattle.xf_law_recalculation.proofs.AgreeLemmas.TurnLists.{at-stands, each-at_place, each-none, got-stands, none-any}
 use Rattle.xf_binds.specs.Held.{place_on}
-use Rattle.xf_rebuild.specs.Links.{nodes_in}
+use Rattle.xf_binds_rebuild.specs.Links.{nodes_in}
 use Rattle.xf_binds.specs.Placed.{Placed, place_after, placed_from, placed_on}
 use Rattle.xf_recalc.proofs.ListLemmas.{got-map}
 

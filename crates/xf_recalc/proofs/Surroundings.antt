@@ -2,29 +2,29 @@
 use Rattle.std.proofs.Common.{◌≡◌, ℕ, ◌==◌, Bool, true, false, not, cond, ◌&&◌, ◌||◌, List, [], ◌∷◌, map, find, Some, None, option_map, refl, sym, ap, ◌∙◌}
 use Rattle.std.specs.Prelude.{unwrap_or}
 use Rattle.std.specs.List.{list_any, list_all}
-use Rattle.xf_ast.specs.declared.form.Tables.{Tables}
-use Rattle.xf_doc.specs.declared.content.Node.{Node}
-use Rattle.xf_doc.specs.declared.content.Content.{Content}
-use Rattle.xf_doc.specs.declared.content.Content.TheVariants as content
-use Rattle.xf_doc.specs.Forest.{Forest, has_number, is_text}
-use Rattle.xf_doc.specs.Visit.{Visit, still_above, visit, visits_from, visits}
-use Rattle.xf_doc.specs.Shape.{erased, without_text}
+use Rattle.xf_def_syntax.specs.declared.form.Tables.{Tables}
+use Rattle.xf_def_forest.specs.declared.content.Node.{Node}
+use Rattle.xf_def_forest.specs.declared.content.Content.{Content}
+use Rattle.xf_def_forest.specs.declared.content.Content.TheVariants as content
+use Rattle.xf_def_forest.specs.Forest.{Forest, has_number, is_text}
+use Rattle.xf_def_forest.specs.Visit.{Visit, still_above, visit, visits_from, visits}
+use Rattle.xf_def_forest.specs.Shape.{erased, without_text}
 use Rattle.xf_funcs.specs.Called.{called}
-use Rattle.xf_lang.specs.declared.value.Value.TheVariants.{Nodes}
-use Rattle.xf_lang.specs.Asked.{found}
-use Rattle.xf_lang.specs.Agree.{untexted}
-use Rattle.xf_lang.specs.Binding.{as_list}
-use Rattle.xf_lang.specs.Conversions.{nodes_of}
-use Rattle.xf_lang.specs.Given.{Document, Given, document_of, property_of}
-use Rattle.xf_lang.proofs.VisitFacts.{none-some}
-use Rattle.xf_model.specs.Applied.{Entry}
-use Rattle.xf_model.specs.Settled.{Contents, bounds}
-use Rattle.xf_model.specs.Pertinent.{AllOf}
-use Rattle.xf_model.proofs.EachLemmas.{each_then}
-use Rattle.xf_agree_laws.specs.Settles.{IsSolid}
-use Rattle.xf_agree_laws.proofs.FormSettable.{entries_solid}
-use Rattle.xf_settle_laws.specs.Written.{written, MayWrite}
-use Rattle.xf_settle_laws.proofs.StillLaws.{solid-still}
+use Rattle.xf_def_xpath.specs.declared.value.Value.TheVariants.{Nodes}
+use Rattle.xf_def_xpath.specs.Asked.{found}
+use Rattle.xf_def_xpath.specs.Agree.{untexted}
+use Rattle.xf_def_xpath.specs.Binding.{as_list}
+use Rattle.xf_def_xpath.specs.Conversions.{nodes_of}
+use Rattle.xf_def_xpath.specs.Given.{Document, Given, document_of, property_of}
+use Rattle.xf_def_xpath.proofs.VisitFacts.{none-some}
+use Rattle.xf_def_model.specs.Applied.{Entry}
+use Rattle.xf_def_model.specs.Settled.{Contents, bounds}
+use Rattle.xf_def_model.specs.Pertinent.{AllOf}
+use Rattle.xf_def_model.proofs.EachLemmas.{each_then}
+use Rattle.xf_law_recalculation.specs.Agree.Settles.{IsSolid}
+use Rattle.xf_law_recalculation.proofs.AgreeLemmas.FormSettable.{entries_solid}
+use Rattle.xf_law_forests.specs.Settle.Written.{written, MayWrite}
+use Rattle.xf_law_forests.proofs.SettleLemmas.StillLaws.{solid-still}
 use Rattle.xf_eval.specs.Live.{AllLive, AroundStands}
 use Rattle.xf_recalc.specs.Settles.{MaySettle}
 use Rattle.xf_recalc.specs.Turns.{is_there}

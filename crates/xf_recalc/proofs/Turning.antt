@@ -4,43 +4,43 @@ use Rattle.std.specs.List.{list_any, list_all}
 use Rattle.std.proofs.lemmas.Bool.{eqb-true}
 use Rattle.std.proofs.lemmas.List.{length-map}
 use Rattle.std.proofs.lemmas.Option.{slice_get_within}
-use Rattle.xf_ast.specs.declared.form.Tables.{Tables}
-use Rattle.xf_doc.specs.declared.content.Node.{Node}
-use Rattle.xf_doc.specs.Forest.{Forest}
-use Rattle.xf_doc.specs.Limits.{limits}
-use Rattle.xf_doc.specs.Needs.{IsSettable}
-use Rattle.xf_doc.specs.Settle.{has_text, with_settled_text, with_numbered_text}
-use Rattle.xf_doc.specs.Visit.{Visit, has, visits}
+use Rattle.xf_def_syntax.specs.declared.form.Tables.{Tables}
+use Rattle.xf_def_forest.specs.declared.content.Node.{Node}
+use Rattle.xf_def_forest.specs.Forest.{Forest}
+use Rattle.xf_def_forest.specs.Limits.{limits}
+use Rattle.xf_def_forest.specs.Needs.{IsSettable}
+use Rattle.xf_def_forest.specs.Settle.{has_text, with_settled_text, with_numbered_text}
+use Rattle.xf_def_forest.specs.Visit.{Visit, has, visits}
 use Rattle.xf_funcs.specs.Called.{called}
-use Rattle.xf_lang.specs.Conversions.{truth_of}
-use Rattle.xf_lang.specs.Given.{Given}
-use Rattle.xf_lang.proofs.VisitFacts.{no, some-same}
-use Rattle.xf_model.specs.declared.property.Property.TheVariants.{Kind}
-use Rattle.xf_model.specs.Rules.{Scope}
-use Rattle.xf_model.specs.Applied.{Entry}
-use Rattle.xf_model.specs.Entries.{text_of, value_of}
-use Rattle.xf_model.specs.Settled.{Contents, bounds, calculates, content_by, fitting, is_over, settled}
-use Rattle.xf_model.specs.Pertinent.{AllOf}
-use Rattle.xf_model.proofs.EachLemmas.{each_then, each_one, each_both}
-use Rattle.xf_model.proofs.CircularLemmas.{StandsAt}
-use Rattle.xf_agree_laws.specs.InTurn.{AreInTurn, AreSingle, IsFitting}
-use Rattle.xf_agree_laws.proofs.TurnLists.{all-later, all-append, at-stands, each-stands}
-use Rattle.xf_agree_laws.proofs.FormSettable.{form_settable}
-use Rattle.xf_agree_laws.proofs.InTurnLaws.{each-in_turn, stands-in_turn, in_turn_texts}
-use Rattle.xf_agree_laws.proofs.InTurnLimits.{any-stands, in_turn_passed}
-use Rattle.xf_agree_laws.proofs.InTurnDone.{stand}
-use Rattle.xf_settle_laws.specs.Written.{written, and_one, MayWrite}
-use Rattle.xf_settle_laws.proofs.Put.{with_one}
-use Rattle.xf_settle_laws.proofs.WrittenLaws.{one-more}
-use Rattle.xf_settle_laws.proofs.StillLaws.{settable-still}
-use Rattle.xf_settle_laws.proofs.MeasureLaws.{written-all, written-none}
-use Rattle.xf_machine_laws.proofs.WrittenContents.{all-written}
-use Rattle.xf_written_laws.specs.Turn.{AreTurned}
-use Rattle.xf_written_laws.proofs.TurnLaws.{turn, turn_writes, turn_text, turn_truth}
-use Rattle.xf_marks_laws.specs.Outside.{IsOutside}
-use Rattle.xf_since_laws.specs.Since.{Before, HoldsText, Since, changes_since}
-use Rattle.xf_since_laws.proofs.PassedWritten.{passed_turn}
-use Rattle.xf_form_machine.specs.Behave.{with_contents}
+use Rattle.xf_def_xpath.specs.Conversions.{truth_of}
+use Rattle.xf_def_xpath.specs.Given.{Given}
+use Rattle.xf_def_xpath.proofs.VisitFacts.{no, some-same}
+use Rattle.xf_def_model.specs.declared.property.Property.TheVariants.{Kind}
+use Rattle.xf_def_model.specs.Rules.{Scope}
+use Rattle.xf_def_model.specs.Applied.{Entry}
+use Rattle.xf_def_model.specs.Entries.{text_of, value_of}
+use Rattle.xf_def_model.specs.Settled.{Contents, bounds, calculates, content_by, fitting, is_over, settled}
+use Rattle.xf_def_model.specs.Pertinent.{AllOf}
+use Rattle.xf_def_model.proofs.EachLemmas.{each_then, each_one, each_both}
+use Rattle.xf_def_model.proofs.CircularLemmas.{StandsAt}
+use Rattle.xf_law_recalculation.specs.Agree.InTurn.{AreInTurn, AreSingle, IsFitting}
+use Rattle.xf_law_recalculation.proofs.AgreeLemmas.TurnLists.{all-later, all-append, at-stands, each-stands}
+use Rattle.xf_law_recalculation.proofs.AgreeLemmas.FormSettable.{form_settable}
+use Rattle.xf_law_recalculation.proofs.AgreeLemmas.InTurnLaws.{each-in_turn, stands-in_turn, in_turn_texts}
+use Rattle.xf_law_recalculation.proofs.AgreeLemmas.InTurnLimits.{any-stands, in_turn_passed}
+use Rattle.xf_law_recalculation.proofs.AgreeLemmas.InTurnDone.{stand}
+use Rattle.xf_law_forests.specs.Settle.Written.{written, and_one, MayWrite}
+use Rattle.xf_law_forests.proofs.SettleLemmas.Put.{with_one}
+use Rattle.xf_law_forests.proofs.SettleLemmas.WrittenLaws.{one-more}
+use Rattle.xf_law_forests.proofs.SettleLemmas.StillLaws.{settable-still}
+use Rattle.xf_law_forests.proofs.SettleLemmas.MeasureLaws.{written-all, written-none}
+use Rattle.xf_law_machine.proofs.BehavioursLemmas.WrittenContents.{all-written}
+use Rattle.xf_law_recalculation.specs.Written.Turn.{AreTurned}
+use Rattle.xf_law_recalculation.proofs.WrittenLemmas.TurnLaws.{turn, turn_writes, turn_text, turn_truth}
+use Rattle.xf_law_recalculation.specs.Marks.Outside.{IsOutside}
+use Rattle.xf_law_recalculation.specs.Since.Since.{Before, HoldsText, Since, changes_since}
+use Rattle.xf_law_recalculation.proofs.SinceLemmas.PassedWritten.{passed_turn}
+use Rattle.xf_def_machine.specs.Behave.{with_contents}
 use Rattle.xf_undo.specs.Draft.{Draft, IsUnused, with_reserved, with_settled}
 use Rattle.xf_binds.specs.declared.turns.Turn.{Turn}
 use Rattle.xf_recalc.specs.declared.fault.SettleFault.{SettleFault}

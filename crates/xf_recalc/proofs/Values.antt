@@ -1,22 +1,22 @@
 -- The value of an entry is what its expression means in its context, and its text is that of the value.
 use Rattle.std.proofs.Common.{◌≡◌, ℕ, List, [], Some, None, sym, ap, ◌∙◌}
 use Rattle.xf_base.specs.Limits.{string_limit}
-use Rattle.xf_ast.specs.declared.expr.Expr.{Expr}
-use Rattle.xf_ast.specs.declared.form.Tables.{Tables}
-use Rattle.xf_doc.specs.declared.content.Node.{Node}
-use Rattle.xf_doc.specs.Visit.{visits}
+use Rattle.xf_def_syntax.specs.declared.expr.Expr.{Expr}
+use Rattle.xf_def_syntax.specs.declared.form.Tables.{Tables}
+use Rattle.xf_def_forest.specs.declared.content.Node.{Node}
+use Rattle.xf_def_forest.specs.Visit.{visits}
 use Rattle.xf_funcs.specs.Called.{called}
-use Rattle.xf_lang.specs.declared.context.Context.{Context}
-use Rattle.xf_lang.specs.declared.value.Value.{Value}
-use Rattle.xf_lang.specs.declared.value.Value.TheVariants.{Nodes}
-use Rattle.xf_lang.specs.Given.{Given}
-use Rattle.xf_lang.specs.Setting.{◌>>=◌}
-use Rattle.xf_lang.specs.Conversions.{string_of}
-use Rattle.xf_lang.specs.Meaning.{focus_of, meaning, setting_of}
-use Rattle.xf_lang.proofs.TraceKeeps.{meaning-of_trace}
-use Rattle.xf_model.specs.Rules.{computed_of}
-use Rattle.xf_model.specs.Nested.{setting_for}
-use Rattle.xf_model.specs.Entries.{expression_of, text_of, value_by, value_of}
+use Rattle.xf_def_xpath.specs.declared.context.Context.{Context}
+use Rattle.xf_def_xpath.specs.declared.value.Value.{Value}
+use Rattle.xf_def_xpath.specs.declared.value.Value.TheVariants.{Nodes}
+use Rattle.xf_def_xpath.specs.Given.{Given}
+use Rattle.xf_def_xpath.specs.Setting.{◌>>=◌}
+use Rattle.xf_def_xpath.specs.Conversions.{string_of}
+use Rattle.xf_def_xpath.specs.Meaning.{focus_of, meaning, setting_of}
+use Rattle.xf_def_xpath.proofs.TraceKeeps.{meaning-of_trace}
+use Rattle.xf_def_model.specs.Rules.{computed_of}
+use Rattle.xf_def_model.specs.Nested.{setting_for}
+use Rattle.xf_def_model.specs.Entries.{expression_of, text_of, value_by, value_of}
 use Rattle.xf_eval.specs.Worth.{setting_in}
 use Rattle.xf_eval.proofs.Settings.{string-same}
 use Rattle.xf_binds.specs.declared.entry.Entry.{Entry}

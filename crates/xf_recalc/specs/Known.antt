@@ -1,12 +1,12 @@
 -- Truths of the values of calculates that are known before the other entries are evaluated: each was found in its turn.
 use Rattle.std.specs.Prelude.{ℕ, ◌≡◌, Bool, List, Option, Some, None, option_map, get_or, slice_get, if◌then◌else◌}
 use Rattle.xf_base.specs.Limits.{string_limit}
-use Rattle.xf_doc.specs.Visit.{Visit}
-use Rattle.xf_lang.specs.Conversions.{truth_of}
-use Rattle.xf_model.specs.Rules.{Scope}
-use Rattle.xf_model.specs.Applied.{Entry, is_calculate}
-use Rattle.xf_model.specs.Entries.{value_of}
-use Rattle.xf_model.specs.Settled.{calculates}
+use Rattle.xf_def_forest.specs.Visit.{Visit}
+use Rattle.xf_def_xpath.specs.Conversions.{truth_of}
+use Rattle.xf_def_model.specs.Rules.{Scope}
+use Rattle.xf_def_model.specs.Applied.{Entry, is_calculate}
+use Rattle.xf_def_model.specs.Entries.{value_of}
+use Rattle.xf_def_model.specs.Settled.{calculates}
 use Rattle.xf_recalc.specs.Turns.{truth_over}
 
 -- by the places of the calculates among each other: what is known is the truth of the value over these visits

@@ -1,22 +1,22 @@
 -- Entries that are passed over (XForms 1.1, section 4.3.2 and appendix C): those that are not pertinent, where it is known how the data stand beside
 -- those of the last recalculation.
 use Rattle.std.specs.Prelude.{ℕ, ◌≡◌, Bool, true, false, not, List, Option, Some, None, get_or, slice_get}
-use Rattle.xf_ast.specs.declared.form.Bind.{Bind}
-use Rattle.xf_ast.specs.declared.form.Properties.{Properties}
-use Rattle.xf_ast.specs.declared.form.Tables.{Tables}
-use Rattle.xf_doc.specs.Forest.{Forest}
-use Rattle.xf_doc.specs.Visit.{Visit}
+use Rattle.xf_def_syntax.specs.declared.form.Bind.{Bind}
+use Rattle.xf_def_syntax.specs.declared.form.Properties.{Properties}
+use Rattle.xf_def_syntax.specs.declared.form.Tables.{Tables}
+use Rattle.xf_def_forest.specs.Forest.{Forest}
+use Rattle.xf_def_forest.specs.Visit.{Visit}
 use Rattle.xf_funcs.specs.Called.{called}
-use Rattle.xf_lang.specs.Given.{Given}
-use Rattle.xf_model.specs.declared.property.Property.TheVariants.{Calculate}
-use Rattle.xf_model.specs.Rules.{Scope}
-use Rattle.xf_model.specs.Applied.{Entry}
-use Rattle.xf_model.specs.Entries.{is_computed}
-use Rattle.xf_model.specs.Settled.{bounds}
-use Rattle.xf_model.specs.Pertinent.{AllOf}
-use Rattle.xf_agree_laws.specs.FormSettles.{calculate_covered}
-use Rattle.xf_marks_laws.specs.Outside.{IsOutside}
-use Rattle.xf_since_laws.specs.Since.{Before, Since, changes_since}
+use Rattle.xf_def_xpath.specs.Given.{Given}
+use Rattle.xf_def_model.specs.declared.property.Property.TheVariants.{Calculate}
+use Rattle.xf_def_model.specs.Rules.{Scope}
+use Rattle.xf_def_model.specs.Applied.{Entry}
+use Rattle.xf_def_model.specs.Entries.{is_computed}
+use Rattle.xf_def_model.specs.Settled.{bounds}
+use Rattle.xf_def_model.specs.Pertinent.{AllOf}
+use Rattle.xf_law_recalculation.specs.Agree.FormSettles.{calculate_covered}
+use Rattle.xf_law_recalculation.specs.Marks.Outside.{IsOutside}
+use Rattle.xf_law_recalculation.specs.Since.Since.{Before, Since, changes_since}
 use Rattle.xf_binds.specs.Held.{IsOnly, place_on}
 use Rattle.xf_binds.specs.Kept.{Kept, entries_of, truth_in}
 use Rattle.xf_recalc.specs.Known.{known_at}

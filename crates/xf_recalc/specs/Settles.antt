@@ -2,26 +2,26 @@
 -- entry has the truth of its value over these.
 use Rattle.std.specs.Prelude.{ℕ, ◌≡◌, ◌<◌, ◌^◌, Bool, true, false, List, [], map, length, Option, Some, None}
 use Rattle.std.specs.List.{list_any}
-use Rattle.xf_ast.specs.declared.form.Tables.{Tables}
-use Rattle.xf_doc.specs.declared.fault.TreeFault.{TreeFault}
-use Rattle.xf_doc.specs.declared.fault.TreeFault.TheVariants as tree
-use Rattle.xf_doc.specs.Forest.{Forest}
-use Rattle.xf_doc.specs.Visit.{visits}
-use Rattle.xf_doc.specs.Settle.{reserved}
-use Rattle.xf_settle_laws.specs.Written.{written}
+use Rattle.xf_def_syntax.specs.declared.form.Tables.{Tables}
+use Rattle.xf_def_forest.specs.declared.fault.TreeFault.{TreeFault}
+use Rattle.xf_def_forest.specs.declared.fault.TreeFault.TheVariants as tree
+use Rattle.xf_def_forest.specs.Forest.{Forest}
+use Rattle.xf_def_forest.specs.Visit.{visits}
+use Rattle.xf_def_forest.specs.Settle.{reserved}
+use Rattle.xf_law_forests.specs.Settle.Written.{written}
 use Rattle.xf_funcs.specs.Called.{called}
-use Rattle.xf_lang.specs.Given.{Document, Given}
-use Rattle.xf_lang.specs.declared.fault.EvalFault.{EvalFault}
-use Rattle.xf_lang.specs.declared.fault.EvalFault.TheVariants as eval
-use Rattle.xf_model.specs.Rules.{Scope, scope_of}
-use Rattle.xf_model.specs.Applied.{Entry}
-use Rattle.xf_model.specs.Settled.{Contents, Passed, nodes, all_texts, bounds, settled_contents, values_over, passed}
-use Rattle.xf_model.specs.Pertinent.{AllOf}
-use Rattle.xf_model.specs.Stands.{AreAcyclic}
-use Rattle.xf_agree_laws.specs.Settles.{IsSolid, Surrounds}
-use Rattle.xf_agree_laws.specs.FormSettles.{AreCovered, Applies}
-use Rattle.xf_agree_laws.specs.InTurn.{tells_long, tells_text}
-use Rattle.xf_form_machine.specs.Behave.{with_contents, truly}
+use Rattle.xf_def_xpath.specs.Given.{Document, Given}
+use Rattle.xf_def_xpath.specs.declared.fault.EvalFault.{EvalFault}
+use Rattle.xf_def_xpath.specs.declared.fault.EvalFault.TheVariants as eval
+use Rattle.xf_def_model.specs.Rules.{Scope, scope_of}
+use Rattle.xf_def_model.specs.Applied.{Entry}
+use Rattle.xf_def_model.specs.Settled.{Contents, Passed, nodes, all_texts, bounds, settled_contents, values_over, passed}
+use Rattle.xf_def_model.specs.Pertinent.{AllOf}
+use Rattle.xf_def_model.specs.Stands.{AreAcyclic}
+use Rattle.xf_law_recalculation.specs.Agree.Settles.{IsSolid, Surrounds}
+use Rattle.xf_law_recalculation.specs.Agree.FormSettles.{AreCovered, Applies}
+use Rattle.xf_law_recalculation.specs.Agree.InTurn.{tells_long, tells_text}
+use Rattle.xf_def_machine.specs.Behave.{with_contents, truly}
 use Rattle.xf_binds.specs.Held.{held_by}
 use Rattle.xf_binds.specs.Kept.{valued_in}
 use Rattle.xf_recalc.specs.declared.fault.SettleFault.{SettleFault}

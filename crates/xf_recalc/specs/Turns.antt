@@ -1,19 +1,19 @@
 -- One calculate after the other: what is done in a turn, and what each entry is found to be over the data that stand then.
 use Rattle.std.specs.Prelude.{ℕ, ◌≡◌, Bool, true, false, List, [], ◌∷◌, ◌++◌, map, length, nat_lt, Option, Some, None, option_map, Result, Ok, Err, slice_get, if◌then◌else◌}
 use Rattle.xf_base.specs.Limits.{string_limit}
-use Rattle.xf_doc.specs.Limits.{limits}
-use Rattle.xf_doc.specs.declared.content.Node.{Node}
-use Rattle.xf_doc.specs.Forest.{has_number}
-use Rattle.xf_doc.specs.Visit.{Visit}
-use Rattle.xf_doc.specs.Settle.{has_text}
-use Rattle.xf_plain_values.specs.Bounded.{◌>>=◌}
-use Rattle.xf_lang.specs.Conversions.{truth_of}
-use Rattle.xf_model.specs.Rules.{Scope}
-use Rattle.xf_model.specs.Applied.{Entry}
-use Rattle.xf_model.specs.Entries.{is_computed, value_of}
-use Rattle.xf_model.specs.Settled.{calculates}
-use Rattle.xf_model.specs.Pertinent.{AllOf}
-use Rattle.xf_agree_laws.specs.InTurn.{AreSingle, IsOrdered}
+use Rattle.xf_def_forest.specs.Limits.{limits}
+use Rattle.xf_def_forest.specs.declared.content.Node.{Node}
+use Rattle.xf_def_forest.specs.Forest.{has_number}
+use Rattle.xf_def_forest.specs.Visit.{Visit}
+use Rattle.xf_def_forest.specs.Settle.{has_text}
+use Rattle.xf_def_values.specs.Bounded.{◌>>=◌}
+use Rattle.xf_def_xpath.specs.Conversions.{truth_of}
+use Rattle.xf_def_model.specs.Rules.{Scope}
+use Rattle.xf_def_model.specs.Applied.{Entry}
+use Rattle.xf_def_model.specs.Entries.{is_computed, value_of}
+use Rattle.xf_def_model.specs.Settled.{calculates}
+use Rattle.xf_def_model.specs.Pertinent.{AllOf}
+use Rattle.xf_law_recalculation.specs.Agree.InTurn.{AreSingle, IsOrdered}
 use Rattle.xf_undo.specs.Draft.{Draft, with_settled}
 use Rattle.xf_binds.specs.Held.{entry_of}
 use Rattle.xf_binds.specs.declared.turns.Turn.{Turn}

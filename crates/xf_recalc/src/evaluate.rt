@@ -2,22 +2,22 @@
 
 ghost use Rattle.std.specs.Prelude.{◌≡◌, Some, true, option_map, IfOk};
 ghost use Rattle.xf_base.specs.Limits.{string_limit};
-ghost use Rattle.xf_doc.specs.Forest.{has_number};
-ghost use Rattle.xf_doc.specs.Visit.{visits};
-ghost use Rattle.xf_plain_values.specs.Bounded.{GivesBounded};
-ghost use Rattle.xf_lang.specs.Conversions.{nodes_of, truth_of};
-ghost use Rattle.xf_model.specs.Entries.{text_of, value_of};
+ghost use Rattle.xf_def_forest.specs.Forest.{has_number};
+ghost use Rattle.xf_def_forest.specs.Visit.{visits};
+ghost use Rattle.xf_def_values.specs.Bounded.{GivesBounded};
+ghost use Rattle.xf_def_xpath.specs.Conversions.{nodes_of, truth_of};
+ghost use Rattle.xf_def_model.specs.Entries.{text_of, value_of};
 ghost use Rattle.xf_eval.specs.Live.{AllLive, AroundStands};
 ghost use Rattle.xf_binds.specs.Held.{entry_of};
 ghost use Rattle.xf_recalc.specs.Settles.{scope_in};
 
 use std::alloc::Global;
-use xf_ast::Tables;
 use xf_binds::Entry;
-use xf_doc::NodeList;
+use xf_binds_rebuild::expression_of;
+use xf_def_forest::NodeList;
+use xf_def_syntax::Tables;
 use xf_eval::{Around, Context, EvalFault, Value, text_of, truth_of, value_at};
 use xf_name::Word;
-use xf_rebuild::expression_of;
 use xf_tree::Forest;
 
 /// What an entry gives: the text of its value, and its truth.

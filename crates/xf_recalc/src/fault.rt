@@ -1,7 +1,7 @@
 //! Why a model is not recalculated.
 
 use std::alloc::AllocError;
-use xf_lang::EvalFault;
+use xf_def_xpath::EvalFault;
 
 /// Why a model is not recalculated: a limit that its settled data pass.
 #[derive(Clone, Copy, Debug, PartialEq, Eq)]

@@ -1,14 +1,14 @@
 //! The recalculation of a model (XForms 1.1, section 4.3.2).
 
 ghost use Rattle.std.specs.Prelude.{◌≡◌, length, map, IfOk, IfErr, OnErr};
-ghost use Rattle.xf_doc.specs.Limits.{limits, passed_by_all};
-ghost use Rattle.xf_doc.specs.Shape.{shape_of};
-ghost use Rattle.xf_doc.specs.Visit.{visits};
-ghost use Rattle.xf_model.specs.Settled.{calculates};
-ghost use Rattle.xf_model.specs.Pertinent.{AllOf};
+ghost use Rattle.xf_def_forest.specs.Limits.{limits, passed_by_all};
+ghost use Rattle.xf_def_forest.specs.Shape.{shape_of};
+ghost use Rattle.xf_def_forest.specs.Visit.{visits};
+ghost use Rattle.xf_def_model.specs.Settled.{calculates};
+ghost use Rattle.xf_def_model.specs.Pertinent.{AllOf};
 ghost use Rattle.xf_binds.specs.Placed.{IsSeatedIn};
 ghost use Rattle.xf_binds.specs.Table.{kept_at};
-ghost use Rattle.xf_rebuild.specs.Web.{asks_of};
+ghost use Rattle.xf_binds_rebuild.specs.Web.{asks_of};
 ghost use Rattle.xf_recalc.specs.Passes.{ArePassed};
 ghost use Rattle.xf_recalc.specs.Settles.{IsLeft, IsSettled, IsTold, MaySettle, scope_in, word_of, words_of};
 ghost use Rattle.xf_recalc.specs.Turns.{AreTurns};
@@ -18,9 +18,9 @@ use crate::order::turns_of;
 use crate::truths::truths_of;
 use crate::turn::settle_turns;
 use std::alloc::Global;
-use xf_ast::Tables;
 use xf_binds::{Table, TruthList, Turn, is_calculate};
-use xf_doc::TreeFault;
+use xf_def_forest::TreeFault;
+use xf_def_syntax::Tables;
 use xf_eval::Around;
 use xf_tree::Forest;
 use xf_undo::Draft;

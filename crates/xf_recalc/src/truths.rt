@@ -2,10 +2,10 @@
 
 ghost use Rattle.std.specs.Prelude.{◌≡◌, [], Some, true, option_map, slice_get};
 ghost use Rattle.std.specs.List.{list_all};
-ghost use Rattle.xf_doc.specs.Forest.{has_number};
-ghost use Rattle.xf_doc.specs.Visit.{visits};
-ghost use Rattle.xf_plain_values.specs.Bounded.{GivesBounded};
-ghost use Rattle.xf_model.specs.Applied.{is_property};
+ghost use Rattle.xf_def_forest.specs.Forest.{has_number};
+ghost use Rattle.xf_def_forest.specs.Visit.{visits};
+ghost use Rattle.xf_def_values.specs.Bounded.{GivesBounded};
+ghost use Rattle.xf_def_model.specs.Applied.{is_property};
 ghost use Rattle.xf_eval.specs.Live.{AroundStands};
 ghost use Rattle.xf_binds.specs.Held.{entry_of};
 ghost use Rattle.xf_binds.specs.Table.{kept_at};
@@ -17,10 +17,10 @@ ghost use Rattle.xf_recalc.specs.Turns.{found_over, found_step, is_there, is_the
 use crate::evaluate::entry_value;
 use crate::order::is_passed;
 use std::alloc::Global;
-use xf_ast::Tables;
 use xf_binds::{Entry, Table, TruthList, is_calculate};
+use xf_def_model::Property;
+use xf_def_syntax::Tables;
 use xf_eval::{Around, EvalFault, truth_of};
-use xf_model::Property;
 use xf_tree::Forest;
 
 /// The truths of the values of a model's entries over the forest as it stands, by their places. Those that are known of calculates, by their

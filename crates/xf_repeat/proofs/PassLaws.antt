@@ -2,14 +2,14 @@
 use Rattle.std.proofs.Common.{◌≡◌, ℕ, Bool, true, false, ◌||◌, ◌&&◌, List, [], ◌∷◌, Option, Some, None, option_map, refl, sym, ap, ◌∙◌, subst}
 use Rattle.std.specs.Prelude.{if◌then◌else◌, ◌==◌}
 use Rattle.std.specs.List.{list_any}
-use Rattle.xf_doc.specs.Visit as visit
+use Rattle.xf_def_forest.specs.Visit as visit
 use Rattle.xf_graph.specs.Edges as graph
 use Rattle.xf_graph.proofs.HasLemmas.{==-turned}
-use Rattle.xf_lang.specs.Setting.{◌>>=◌}
-use Rattle.xf_ui.specs.Around.{Around}
-use Rattle.xf_ui.specs.Elements.{ancestors}
-use Rattle.xf_ui.specs.Index.{Index, Pass, begins_anew, index_at, index_of, pass_over, passed, rows_now, ruled, with_index}
-use Rattle.xf_ui.specs.Interface.{Interface}
+use Rattle.xf_def_xpath.specs.Setting.{◌>>=◌}
+use Rattle.xf_def_ui.specs.Around.{Around}
+use Rattle.xf_def_ui.specs.Elements.{ancestors}
+use Rattle.xf_def_ui.specs.Index.{Index, Pass, begins_anew, index_at, index_of, pass_over, passed, rows_now, ruled, with_index}
+use Rattle.xf_def_ui.specs.Interface.{Interface}
 use Rattle.xf_repeat.specs.Passes.{IsAt, IsAtPass, stepped}
 
 has-both : (ns : List ℕ) (n : ℕ) → graph.has ns n ≡ visit.has n ns

@@ -2,9 +2,9 @@
 use Rattle.std.proofs.Common.{◌≡◌, ℕ, suc, Bool, true, false, cond, List, length, Option, Some, None, sym, ap, ◌∙◌}
 use Rattle.std.specs.Prelude.{◌==◌, nat_lt, if◌then◌else◌}
 use Rattle.std.specs.List.{position}
-use Rattle.xf_doc.specs.Visit.{has}
-use Rattle.xf_ui.specs.Index.{place_in}
-use Rattle.xf_context.proofs.RowPlaces.{has-place, place}
+use Rattle.xf_def_forest.specs.Visit.{has}
+use Rattle.xf_def_ui.specs.Index.{place_in}
+use Rattle.xf_eval_context.proofs.RowPlaces.{has-place, place}
 
 abbrev placed_where : Bool → ℕ → Option ℕ
 placed_where b k = if b then Some (suc k) else None

@@ -2,13 +2,13 @@
 use Rattle.std.proofs.Common.{◌≡◌, ℕ, ◌≤◌, Bool, true, false, cond, List, map, length, take, [], ◌∷◌, ◌++◌, Option, Some, None, refl, sym, ap, ◌∙◌, arith}
 use Rattle.std.specs.Prelude.{filter, replicate}
 use Rattle.std.proofs.lemmas.List.{take-append-le, take_all}
-use Rattle.xf_lang.specs.Setting.{◌>>=◌}
-use Rattle.xf_ui.specs.Around.{Around}
-use Rattle.xf_ui.specs.Index.{Index, index_at, index_of, rows_now, same_node, unset, with_index}
-use Rattle.xf_ui.specs.Interface.{Interface}
-use Rattle.xf_ui.specs.Rows.{held}
-use Rattle.xf_context.specs.Indexes.{seen_index}
-use Rattle.xf_ui.specs.Started.{each_takes, index_set, restarted}
+use Rattle.xf_def_xpath.specs.Setting.{◌>>=◌}
+use Rattle.xf_def_ui.specs.Around.{Around}
+use Rattle.xf_def_ui.specs.Index.{Index, index_at, index_of, rows_now, same_node, unset, with_index}
+use Rattle.xf_def_ui.specs.Interface.{Interface}
+use Rattle.xf_def_ui.specs.Rows.{held}
+use Rattle.xf_eval_context.specs.Indexes.{seen_index}
+use Rattle.xf_def_ui.specs.Started.{each_takes, index_set, restarted}
 
 module _ (f : Interface) (a : Around) (taken : ℕ → List ℕ → ℕ) where
   abbrev all-take : List Index → List ℕ → Option (List Index)

@@ -1,10 +1,10 @@
 -- The indexes after a first pass, and after the others.
 use Rattle.std.proofs.Common.{◌≡◌, ℕ, ◌⊎◌, inl, inr, suc, Bool, true, false, not, List, Option, Some, None, option_map, Result, Ok, Err, refl, sym, ap, ◌∙◌, subst}
-use Rattle.xf_lang.specs.declared.fault.EvalFault.{EvalFault}
-use Rattle.xf_lang.specs.declared.fault.EvalFault.TheVariants as fault
-use Rattle.xf_ui.specs.Around.{Around}
-use Rattle.xf_ui.specs.Index.{Index, Stop, after_pass, again_unless, brought_up, pass, same_indexes}
-use Rattle.xf_ui.specs.Interface.{Interface}
+use Rattle.xf_def_xpath.specs.declared.fault.EvalFault.{EvalFault}
+use Rattle.xf_def_xpath.specs.declared.fault.EvalFault.TheVariants as fault
+use Rattle.xf_def_ui.specs.Around.{Around}
+use Rattle.xf_def_ui.specs.Index.{Index, Stop, after_pass, again_unless, brought_up, pass, same_indexes}
+use Rattle.xf_def_ui.specs.Interface.{Interface}
 use Rattle.xf_repeat.specs.declared.fault.IndexFault.{IndexFault}
 use Rattle.xf_repeat.specs.Passes.{BringsUp, moved_from, stopped}
 

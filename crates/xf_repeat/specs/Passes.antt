@@ -1,13 +1,13 @@
 -- Passes over the indexes of all repeats, as they are made in place.
 use Rattle.std.specs.Prelude.{ℕ, ◌≡◌, ◌⊎◌, Bool, not, List, Option, Some, None, Result, Ok, Err}
-use Rattle.xf_doc.specs.Visit as visit
+use Rattle.xf_def_forest.specs.Visit as visit
 use Rattle.xf_graph.specs.Edges as graph
-use Rattle.xf_lang.specs.declared.fault.EvalFault.{EvalFault}
-use Rattle.xf_lang.specs.declared.fault.EvalFault.TheVariants as fault
-use Rattle.xf_lang.specs.Setting.{◌>>=◌}
-use Rattle.xf_ui.specs.Around.{Around}
-use Rattle.xf_ui.specs.Index.{Index, Pass, Stop, begins_anew, index_of, long, passed, passes, rows_now, ruled, same_indexes}
-use Rattle.xf_ui.specs.Interface.{Interface}
+use Rattle.xf_def_xpath.specs.declared.fault.EvalFault.{EvalFault}
+use Rattle.xf_def_xpath.specs.declared.fault.EvalFault.TheVariants as fault
+use Rattle.xf_def_xpath.specs.Setting.{◌>>=◌}
+use Rattle.xf_def_ui.specs.Around.{Around}
+use Rattle.xf_def_ui.specs.Index.{Index, Pass, Stop, begins_anew, index_of, long, passed, passes, rows_now, ruled, same_indexes}
+use Rattle.xf_def_ui.specs.Interface.{Interface}
 use Rattle.xf_repeat.specs.declared.fault.IndexFault.{IndexFault}
 use Rattle.xf_repeat.specs.declared.fault.IndexFault.TheVariants.{Long, Passes, Memory}
 

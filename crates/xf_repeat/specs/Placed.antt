@@ -1,6 +1,6 @@
 -- Two indexes.
 use Rattle.std.specs.Prelude.{Bool, ◌&&◌, ◌==◌}
-use Rattle.xf_ui.specs.Index.{Index, same_node}
+use Rattle.xf_def_ui.specs.Index.{Index, same_node}
 
 -- the same number and the same node, or none
 abbrev pub is_same : Index → Index → Bool

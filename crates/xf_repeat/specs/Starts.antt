@@ -1,9 +1,9 @@
 -- Which repeats start, and at which index (XForms 1.1, sections 9.3.1 and 10.5).
 use Rattle.std.specs.Prelude.{ℕ, Bool, true, List, length, min}
-use Rattle.xf_doc.specs.Visit.{has}
-use Rattle.xf_ui.specs.Elements.{ancestors, element_at, repeat_start}
-use Rattle.xf_ui.specs.Interface.{Interface}
-use Rattle.xf_ui.specs.Rows.{held}
+use Rattle.xf_def_forest.specs.Visit.{has}
+use Rattle.xf_def_ui.specs.Elements.{ancestors, element_at, repeat_start}
+use Rattle.xf_def_ui.specs.Interface.{Interface}
+use Rattle.xf_def_ui.specs.Rows.{held}
 use Rattle.xf_repeat.specs.declared.starting.Start.{Start}
 use Rattle.xf_repeat.specs.declared.starting.Start.TheVariants.{Written, Inside}
 

@@ -16,4 +16,4 @@ pub use named::{Target, handler_rows, indexed_rows, named_rows, rows_cut};
 pub use passing::bring_up;
 pub use rows::{rows_now, rows_of, seeing};
 pub use starting::{set_index, started};
-pub use xf_context::Index;
+pub use xf_eval_context::Index;

@@ -1,23 +1,23 @@
 //! Which copy of an element is meant (XForms 1.1, section 4.7.1): the chain of rows of the repeats around it.
 
 ghost use Rattle.std.specs.Prelude.{◌≡◌, ◌++◌, IfOk, OnOk, map, option_map, slice_get};
-ghost use Rattle.xf_plain_values.specs.Bounded.{GivesBounded};
-ghost use Rattle.xf_doc.specs.Visit.{has};
-ghost use Rattle.xf_lang.specs.Setting.{each};
-ghost use Rattle.xf_ui.specs.Index as ui;
-ghost use Rattle.xf_ui.specs.Interface.{interface_of};
-ghost use Rattle.xf_ui.specs.Named as named;
-ghost use Rattle.xf_context.specs.Indexes.{seen_index};
-ghost use Rattle.xf_context.specs.Over.{around_over};
+ghost use Rattle.xf_def_values.specs.Bounded.{GivesBounded};
+ghost use Rattle.xf_def_forest.specs.Visit.{has};
+ghost use Rattle.xf_def_xpath.specs.Setting.{each};
+ghost use Rattle.xf_def_ui.specs.Index as ui;
+ghost use Rattle.xf_def_ui.specs.Interface.{interface_of};
+ghost use Rattle.xf_def_ui.specs.Named as named;
+ghost use Rattle.xf_eval_context.specs.Indexes.{seen_index};
+ghost use Rattle.xf_eval_context.specs.Over.{around_over};
 ghost use Rattle.xf_repeat.specs.Chains.{behind, chain_where};
 
 use crate::rows::{row_at, rows_of};
 use std::alloc::{AllocError, Global};
-use xf_ast::{ElementList, Form};
-use xf_context::{Index, Over, index_of};
-use xf_doc::{NodeId, NodeList};
-use xf_elements::{ancestors, repeats_around};
+use xf_def_forest::{NodeId, NodeList};
+use xf_def_syntax::{ElementList, Form};
 use xf_eval::EvalFault;
+use xf_eval_context::{Index, Over, index_of};
+use xf_form_elements::{ancestors, repeats_around};
 
 // ---- by the indexes
 

@@ -2,13 +2,13 @@
 
 ghost use Rattle.std.specs.Prelude.{◌≡◌, ℕ, ◌&&◌, ◌||◌, ◌==◌, IfOk, OnOk, map, option_map};
 ghost use Rattle.std.specs.List.{list_any};
-ghost use Rattle.xf_plain_values.specs.Bounded.{GivesBounded};
+ghost use Rattle.xf_def_values.specs.Bounded.{GivesBounded};
 ghost use Rattle.xf_graph.specs.Edges.{has};
-ghost use Rattle.xf_ui.specs.Elements.{above, ancestors};
-ghost use Rattle.xf_ui.specs.Index as ui;
-ghost use Rattle.xf_ui.specs.Interface.{interface_of};
-ghost use Rattle.xf_context.specs.Indexes.{seen_index};
-ghost use Rattle.xf_context.specs.Over.{around_over};
+ghost use Rattle.xf_def_ui.specs.Elements.{above, ancestors};
+ghost use Rattle.xf_def_ui.specs.Index as ui;
+ghost use Rattle.xf_def_ui.specs.Interface.{interface_of};
+ghost use Rattle.xf_eval_context.specs.Indexes.{seen_index};
+ghost use Rattle.xf_eval_context.specs.Over.{around_over};
 ghost use Rattle.xf_repeat.specs.Passes.{BringsUp, Steps, moved_from, stepped};
 
 use crate::fault::IndexFault;
@@ -17,11 +17,11 @@ use crate::placed::{are_same, index_at, put_index};
 use crate::rows::{count_of, rows_now};
 use crate::rule::{Before, ruled};
 use std::alloc::{AllocError, Global};
-use xf_ast::Form;
 use xf_binds::NodeSet;
-use xf_context::{Index, Over, index_of};
-use xf_elements::parent_of;
+use xf_def_syntax::Form;
 use xf_eval::EvalFault;
+use xf_eval_context::{Index, Over, index_of};
+use xf_form_elements::parent_of;
 
 /// Brings the indexes up to date where these nodes were just inserted: passes over all repeats, so many at most, until one changes nothing.
 /// After an `Err` the indexes are those of the middle of a pass.

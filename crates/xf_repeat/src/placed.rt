@@ -1,15 +1,15 @@
 //! Indexes in the table of all repeats.
 
 ghost use Rattle.std.specs.Prelude.{◌≡◌, map, option_map};
-ghost use Rattle.xf_ui.specs.Index as ui;
-ghost use Rattle.xf_ui.specs.Interface.{interface_of};
-ghost use Rattle.xf_context.specs.Indexes.{seen_index};
+ghost use Rattle.xf_def_ui.specs.Index as ui;
+ghost use Rattle.xf_def_ui.specs.Interface.{interface_of};
+ghost use Rattle.xf_eval_context.specs.Indexes.{seen_index};
 ghost use Rattle.xf_repeat.specs.Placed.{is_same};
 
 use crate::rows::row_at;
-use xf_ast::Form;
-use xf_context::{Index, number_of};
-use xf_doc::{NodeId, NodeList};
+use xf_def_forest::{NodeId, NodeList};
+use xf_def_syntax::Form;
+use xf_eval_context::{Index, number_of};
 
 /// An index, with the row at it.
 pub(crate) fn index_at(rows: &NodeList, index: u32) -> Index

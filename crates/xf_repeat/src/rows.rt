@@ -1,19 +1,19 @@
 //! The rows of a repeat (XForms 1.1, section 9.3.1).
 
 ghost use Rattle.std.specs.Prelude.{◌≡◌, ℕ, List, IfOk, length, map, option_map};
-ghost use Rattle.xf_plain_values.specs.Bounded.{GivesBounded};
-ghost use Rattle.xf_ui.specs.Index as ui;
-ghost use Rattle.xf_ui.specs.Interface.{interface_of};
-ghost use Rattle.xf_ui.specs.Rows as repeats;
-ghost use Rattle.xf_context.specs.Indexes.{seen_index};
-ghost use Rattle.xf_context.specs.Over.{around_over};
+ghost use Rattle.xf_def_values.specs.Bounded.{GivesBounded};
+ghost use Rattle.xf_def_ui.specs.Index as ui;
+ghost use Rattle.xf_def_ui.specs.Interface.{interface_of};
+ghost use Rattle.xf_def_ui.specs.Rows as repeats;
+ghost use Rattle.xf_eval_context.specs.Indexes.{seen_index};
+ghost use Rattle.xf_eval_context.specs.Over.{around_over};
 ghost use Rattle.xf_repeat.specs.Seeing.{Sees};
 
 use crate::named::indexed_rows;
 use std::alloc::AllocError;
-use xf_context::{Index, Over, all_at, binding_at, context_under};
-use xf_doc::{NodeId, NodeList};
+use xf_def_forest::{NodeId, NodeList};
 use xf_eval::EvalFault;
+use xf_eval_context::{Index, Over, all_at, binding_at, context_under};
 
 /// The rows of a repeat under a chain of row nodes of the repeats around it, the outermost first.
 pub fn rows_of(over: &Over<'_>, outer: &[NodeId], repeat: u32) -> Result<NodeList, EvalFault>

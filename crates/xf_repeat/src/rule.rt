@@ -1,12 +1,12 @@
 //! The index of a repeat after its rows may have changed (XForms 1.1, section 9.3.1).
 
 ghost use Rattle.std.specs.Prelude.{◌≡◌, length, option_and_then, option_map};
-ghost use Rattle.xf_ui.specs.Index as ui;
-ghost use Rattle.xf_context.specs.Indexes.{seen_index};
+ghost use Rattle.xf_def_ui.specs.Index as ui;
+ghost use Rattle.xf_eval_context.specs.Indexes.{seen_index};
 
 use xf_binds::NodeSet;
-use xf_context::Index;
-use xf_doc::{NodeId, NodeList};
+use xf_def_forest::{NodeId, NodeList};
+use xf_eval_context::Index;
 
 /// What is known of a repeat before it has its new index.
 #[derive(Clone, Copy)]

@@ -1,23 +1,23 @@
 //! How indexes start (XForms 1.1, section 9.3.1), and how one is set (section 10.5).
 
 ghost use Rattle.std.specs.Prelude.{◌≡◌, ℕ, List, [], ◌∷◌, IfOk, filter, length, map};
-ghost use Rattle.xf_plain_values.specs.Bounded.{GivesBounded};
-ghost use Rattle.xf_doc.specs.Visit.{has};
-ghost use Rattle.xf_ui.specs.Elements.{above, element_at, repeat_start};
-ghost use Rattle.xf_ui.specs.Index as ui;
-ghost use Rattle.xf_ui.specs.Interface.{interface_of, sort_of};
-ghost use Rattle.xf_ui.specs.Started as started;
-ghost use Rattle.xf_context.specs.Indexes.{seen_index};
-ghost use Rattle.xf_context.specs.Over.{around_over};
+ghost use Rattle.xf_def_values.specs.Bounded.{GivesBounded};
+ghost use Rattle.xf_def_forest.specs.Visit.{has};
+ghost use Rattle.xf_def_ui.specs.Elements.{above, element_at, repeat_start};
+ghost use Rattle.xf_def_ui.specs.Index as ui;
+ghost use Rattle.xf_def_ui.specs.Interface.{interface_of, sort_of};
+ghost use Rattle.xf_def_ui.specs.Started as started;
+ghost use Rattle.xf_eval_context.specs.Indexes.{seen_index};
+ghost use Rattle.xf_eval_context.specs.Over.{around_over};
 ghost use Rattle.xf_repeat.specs.Starts.{is_taken, taken_by};
 
 use crate::placed::{index_at, is_same_node, put_index};
 use crate::rows::{count_of, held, rows_now};
 use std::alloc::{AllocError, Global};
-use xf_ast::{Control, Form, Kind};
-use xf_context::{Index, Over, index_of};
-use xf_elements::{element_in, parent_of};
+use xf_def_syntax::{Control, Form, Kind};
 use xf_eval::EvalFault;
+use xf_eval_context::{Index, Over, index_of};
+use xf_form_elements::{element_in, parent_of};
 
 /// Which repeats start, and where.
 #[derive(Clone, Copy, Debug)]

@@ -1,20 +1,20 @@
 -- What is written for an event is what the machine allows.
 use Rattle.std.proofs.Common.{◌≡◌, ℕ, ◌<◌, Bool, true, false, List, [], ◌∷◌, ◌++◌, map, length, codes, decimal, Option, refl, sym, ap, ◌∙◌, subst, arith, lit<, append-nil}
 use Rattle.std.specs.Prelude.{Contains, Result, Ok, Err, OnOk}
-use Rattle.xf_form_machine.specs.declared.note.Note.{Note}
-use Rattle.xf_form_machine.specs.State.{State}
-use Rattle.xf_form_machine.specs.Step.{Posted}
-use Rattle.xf_form_machine.specs.StateText.{line_of}
-use Rattle.xf_form_machine.specs.Replies.{note_lines, count_part, ok_text}
+use Rattle.xf_def_machine.specs.declared.note.Note.{Note}
+use Rattle.xf_def_machine.specs.State.{State}
+use Rattle.xf_def_machine.specs.Step.{Posted}
+use Rattle.xf_def_machine.specs.StateText.{line_of}
+use Rattle.xf_def_machine.specs.Replies.{note_lines, count_part, ok_text}
 use Rattle.std.proofs.lemmas.List.{length-map, get_or-map}
-use Rattle.xf_form_machine.specs.Replies.{limit_text, refusal_texts}
-use Rattle.xf_form_machine.specs.Refusal as machine
-use Rattle.xf_form_machine.specs.declared.refusal.Refusal.{Refusal}
-use Rattle.xf_form_machine.specs.declared.refusal.Refusal.TheVariants.{NoSuchTarget, Disabled, ReadOnly, NotAnItem, BadIndex, PropertyTwice, CalculateOnParent, Binding, Circular, Limit, Budget, Depth, Sends}
-use Rattle.xf_form_machine.specs.Told.{Tells, told}
+use Rattle.xf_def_machine.specs.Replies.{limit_text, refusal_texts}
+use Rattle.xf_def_machine.specs.Refusal as machine
+use Rattle.xf_def_machine.specs.declared.refusal.Refusal.{Refusal}
+use Rattle.xf_def_machine.specs.declared.refusal.Refusal.TheVariants.{NoSuchTarget, Disabled, ReadOnly, NotAnItem, BadIndex, PropertyTwice, CalculateOnParent, Binding, Circular, Limit, Budget, Depth, Sends}
+use Rattle.xf_def_machine.specs.Told.{Tells, told}
 use Rattle.xf_report.specs.Refusals.{refusal_text, construct_text}
 use Rattle.std.specs.List.{flat_map}
-use Rattle.xf_form_machine.specs.FormReplies.{form_texts}
+use Rattle.xf_def_machine.specs.FormReplies.{form_texts}
 use Rattle.xf_report.specs.Answers.{IsAnswer, counted_in, count_text, answer_text}
 
 count-same : (counts : Bool) (count : ℕ) → count_part counts count ≡ count_text (counted_in counts count)

@@ -2,18 +2,18 @@
 use Rattle.std.proofs.Common.{◌≡◌, ℕ, Bool, List, [], ◌∷◌, ◌++◌, codes, decimal, length, drop, ◌<◌, Option, refl, sym, ap, ◌∙◌, append_assoc, append-nil, arith}
 use Rattle.std.specs.Prelude.{get_or, unwrap_or}
 use Rattle.std.specs.List.{flat_map}
-use Rattle.xf_ui.specs.declared.answers.Item.{Item}
-use Rattle.xf_ui.specs.Interface.{Interface, Sort, select}
-use Rattle.xf_ui.specs.Elements.{element_at}
-use Rattle.xf_ui.specs.Index.{index_of, rows_now}
-use Rattle.xf_ui.specs.Cases.{cases_of}
-use Rattle.xf_ui.specs.Copies.{Copy}
-use Rattle.xf_form_machine.specs.Profile.{Profile}
-use Rattle.xf_form_machine.specs.State.{State}
-use Rattle.xf_form_machine.specs.Surround.{interface, quiet}
-use Rattle.xf_form_machine.specs.NoteLines.{quoted}
-use Rattle.xf_form_machine.specs.StateText.{spaced, line_of, marks_text, name_by, name_of, repeat_line, switch_line}
-use Rattle.xf_form_machine.specs.ControlText.{joined, rows_text, marks_of, value_part, sign_if, is_chosen_in, item_line, item_lines, copy_lines}
+use Rattle.xf_def_ui.specs.declared.answers.Item.{Item}
+use Rattle.xf_def_ui.specs.Interface.{Interface, Sort, select}
+use Rattle.xf_def_ui.specs.Elements.{element_at}
+use Rattle.xf_def_ui.specs.Index.{index_of, rows_now}
+use Rattle.xf_def_ui.specs.Cases.{cases_of}
+use Rattle.xf_def_ui.specs.Copies.{Copy}
+use Rattle.xf_def_machine.specs.Profile.{Profile}
+use Rattle.xf_def_machine.specs.State.{State}
+use Rattle.xf_def_machine.specs.Surround.{interface, quiet}
+use Rattle.xf_def_machine.specs.NoteLines.{quoted}
+use Rattle.xf_def_machine.specs.StateText.{spaced, line_of, marks_text, name_by, name_of, repeat_line, switch_line}
+use Rattle.xf_def_machine.specs.ControlText.{joined, rows_text, marks_of, value_part, sign_if, is_chosen_in, item_line, item_lines, copy_lines}
 use Rattle.xf_report.specs.Controls.{behind_comma, IsRepeat, IsCopy, Seen, repeat_text, switch_text, rows_in, many_in, item_text, item_texts, copy_text}
 use Rattle.xf_report.specs.Named.{name_with, name_in}
 

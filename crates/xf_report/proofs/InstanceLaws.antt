@@ -1,7 +1,7 @@
 -- The lines of the instances, one instance more.
 use Rattle.std.proofs.Common.{◌≡◌, ℕ, suc, ◌+◌, ◌-◌, ◌<◌, List, ◌∷◌, ◌++◌, sym, ap, ◌∙◌, append_assoc, arith}
 use Rattle.std.specs.List.{flat_map}
-use Rattle.xf_form_machine.specs.Cycles.{counted_from}
+use Rattle.xf_def_machine.specs.Cycles.{counted_from}
 
 pub counted-more : (place count : ℕ) → place < count → counted_from place (count - place) ≡ place ∷ counted_from (place + 1) (count - (place + 1))
 counted-more place count h =

@@ -5,28 +5,28 @@ use Rattle.std.specs.List.{flat_map}
 use Rattle.std.proofs.lemmas.Bool.{eqb-true}
 use Rattle.std.proofs.lemmas.List.{drop_more}
 use Rattle.std.proofs.lemmas.Option.{get_or_from_slice_get}
-use Rattle.xf_ast.specs.declared.form.Instance.{Instance}
-use Rattle.xf_doc.specs.declared.content.Node.{Node}
-use Rattle.xf_doc.specs.declared.content.Content.{Content}
-use Rattle.xf_doc.specs.declared.content.Content.TheVariants.{Root, Element, Attribute, Text}
-use Rattle.xf_doc.specs.Forest.{Forest, has_number, node_at, content_at}
-use Rattle.xf_doc.specs.Visit.{Visit, visits, first_of, above_in, parent_of, top_of}
-use Rattle.xf_doc.specs.Order.{instance_of}
-use Rattle.xf_doc.specs.Path.{path_of}
-use Rattle.xf_doc.specs.WellFormed.{HasTrees}
-use Rattle.xf_ui.specs.declared.marks.Marks.{Marks}
-use Rattle.xf_form_machine.specs.State.{State}
-use Rattle.xf_form_machine.specs.Surround.{all_in, instances_in, instance_holding}
-use Rattle.xf_form_machine.specs.Properties.{marks_in, pair_at, pair_text, path_in, braced}
-use Rattle.xf_form_machine.specs.NoteLines.{quoted}
-use Rattle.xf_form_machine.specs.StateText.{spaced, line_of, marks_text, own_value, has_elements_in, node_line_by, is_place, node_lines, instance_lines}
-use Rattle.xf_lang.specs.Asked.{found}
-use Rattle.xf_lang.specs.Agree.{numbers_of}
-use Rattle.xf_lang.proofs.VisitFacts.{no, none-some}
-use Rattle.xf_lang.proofs.ForestVisits.{Each, self-found}
-use Rattle.xf_paths.specs.Holding.{pair_among}
-use Rattle.xf_paths.proofs.PairLaws.{pair-is, path-is}
-use Rattle.xf_paths.proofs.VisitLemmas.{Linked, all-linked, apart}
+use Rattle.xf_def_syntax.specs.declared.form.Instance.{Instance}
+use Rattle.xf_def_forest.specs.declared.content.Node.{Node}
+use Rattle.xf_def_forest.specs.declared.content.Content.{Content}
+use Rattle.xf_def_forest.specs.declared.content.Content.TheVariants.{Root, Element, Attribute, Text}
+use Rattle.xf_def_forest.specs.Forest.{Forest, has_number, node_at, content_at}
+use Rattle.xf_def_forest.specs.Visit.{Visit, visits, first_of, above_in, parent_of, top_of}
+use Rattle.xf_def_forest.specs.Order.{instance_of}
+use Rattle.xf_def_forest.specs.Path.{path_of}
+use Rattle.xf_def_forest.specs.WellFormed.{HasTrees}
+use Rattle.xf_def_ui.specs.declared.marks.Marks.{Marks}
+use Rattle.xf_def_machine.specs.State.{State}
+use Rattle.xf_def_machine.specs.Surround.{all_in, instances_in, instance_holding}
+use Rattle.xf_def_machine.specs.Properties.{marks_in, pair_at, pair_text, path_in, braced}
+use Rattle.xf_def_machine.specs.NoteLines.{quoted}
+use Rattle.xf_def_machine.specs.StateText.{spaced, line_of, marks_text, own_value, has_elements_in, node_line_by, is_place, node_lines, instance_lines}
+use Rattle.xf_def_xpath.specs.Asked.{found}
+use Rattle.xf_def_xpath.specs.Agree.{numbers_of}
+use Rattle.xf_def_xpath.proofs.VisitFacts.{no, none-some}
+use Rattle.xf_def_xpath.proofs.ForestVisits.{Each, self-found}
+use Rattle.xf_tree_paths.specs.Holding.{pair_among}
+use Rattle.xf_tree_paths.proofs.PairLaws.{pair-is, path-is}
+use Rattle.xf_tree_paths.proofs.VisitLemmas.{Linked, all-linked, apart}
 use Rattle.xf_report.specs.Lines.{IsOf, block_text, nodes_at, has_elements_at, value_text, line_by, line_in, line_at}
 
 -- ---- one node

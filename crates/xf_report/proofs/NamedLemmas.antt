@@ -2,11 +2,11 @@
 use Rattle.std.proofs.Common.{◌≡◌, ℕ, zero, suc, ◌+◌, ◌<◌, ◌≤◌, Bool, true, false, cond, List, [], ◌∷◌, map, length, take, get_or, Option, Some, None, refl, sym, ap, ◌∙◌, arith}
 use Rattle.std.specs.Prelude.{count_by, slice_get, min}
 use Rattle.std.proofs.lemmas.List.Sums.{sum_by-cons}
-use Rattle.xf_ast.specs.declared.element.Element as written
-use Rattle.xf_ast.specs.declared.form.Form.{Form}
-use Rattle.xf_ast.specs.declared.form.Tables.{Tables}
-use Rattle.xf_ui.specs.Interface.{Element, element_of, interface_of, sort_of}
-use Rattle.xf_ui.specs.Elements.{no_element, element_at, is_control}
+use Rattle.xf_def_syntax.specs.declared.element.Element as written
+use Rattle.xf_def_syntax.specs.declared.form.Form.{Form}
+use Rattle.xf_def_syntax.specs.declared.form.Tables.{Tables}
+use Rattle.xf_def_ui.specs.Interface.{Element, element_of, interface_of, sort_of}
+use Rattle.xf_def_ui.specs.Elements.{no_element, element_at, is_control}
 use Rattle.xf_report.specs.Named.{numbers_from, numbers_of, number_in}
 
 -- ---- elements

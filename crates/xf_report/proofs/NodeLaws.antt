@@ -5,26 +5,26 @@ use Rattle.std.specs.List.{flat_map, list_any}
 use Rattle.std.proofs.lemmas.Bool.{eqb-true}
 use Rattle.std.proofs.lemmas.Bool.Decides.{nat_tests}
 use Rattle.xf_name.specs.declared.axis.Axis.TheVariants.{Attribute, DescendantOrSelf}
-use Rattle.xf_doc.specs.declared.content.Node.{Node}
-use Rattle.xf_doc.specs.declared.content.Content.{Content}
-use Rattle.xf_doc.specs.declared.content.Content.TheVariants as content
-use Rattle.xf_doc.specs.Forest.{Forest, is_root, is_attribute, is_text, has_number, node_at, content_at}
-use Rattle.xf_doc.specs.Visit.{Visit, visits, has, is_first, above_in, ancestors_of, last_of, top_of}
-use Rattle.xf_doc.specs.Axis.{is_on, axis_from, axis_of}
-use Rattle.xf_doc.specs.Order.{instance_of, in_order}
-use Rattle.xf_doc.specs.Changes.{root_of}
-use Rattle.xf_doc.specs.Shape.{erased, without_text}
-use Rattle.xf_doc.specs.WellFormed.{HasTrees, are_apart}
-use Rattle.xf_doc.proofs.BackLaws.{and-true, not-true}
-use Rattle.xf_doc.proofs.LiveLaws.{root-live}
-use Rattle.xf_lang.specs.Asked.{found, has_list}
-use Rattle.xf_lang.specs.Agree.{numbers_of, AreVisits}
-use Rattle.xf_lang.proofs.VisitFacts.{self-same, turned, no, some-same, none-some, found-number, has-found, found-filter, filter-none, kept_if}
-use Rattle.xf_lang.proofs.ForestVisits.{Each, each-filter, each-map, self-found, found-erased, forest-visits}
-use Rattle.xf_paths.proofs.RootLaws.{is-root, no-root}
-use Rattle.xf_paths.proofs.VisitLemmas.{apart, seen}
-use Rattle.xf_paths.proofs.StemLemmas.{above-parent, root-none_above}
-use Rattle.xf_form_machine.specs.StateText.{is_place}
+use Rattle.xf_def_forest.specs.declared.content.Node.{Node}
+use Rattle.xf_def_forest.specs.declared.content.Content.{Content}
+use Rattle.xf_def_forest.specs.declared.content.Content.TheVariants as content
+use Rattle.xf_def_forest.specs.Forest.{Forest, is_root, is_attribute, is_text, has_number, node_at, content_at}
+use Rattle.xf_def_forest.specs.Visit.{Visit, visits, has, is_first, above_in, ancestors_of, last_of, top_of}
+use Rattle.xf_def_forest.specs.Axis.{is_on, axis_from, axis_of}
+use Rattle.xf_def_forest.specs.Order.{instance_of, in_order}
+use Rattle.xf_def_forest.specs.Changes.{root_of}
+use Rattle.xf_def_forest.specs.Shape.{erased, without_text}
+use Rattle.xf_def_forest.specs.WellFormed.{HasTrees, are_apart}
+use Rattle.xf_def_forest.proofs.BackLaws.{and-true, not-true}
+use Rattle.xf_def_forest.proofs.LiveLaws.{root-live}
+use Rattle.xf_def_xpath.specs.Asked.{found, has_list}
+use Rattle.xf_def_xpath.specs.Agree.{numbers_of, AreVisits}
+use Rattle.xf_def_xpath.proofs.VisitFacts.{self-same, turned, no, some-same, none-some, found-number, has-found, found-filter, filter-none, kept_if}
+use Rattle.xf_def_xpath.proofs.ForestVisits.{Each, each-filter, each-map, self-found, found-erased, forest-visits}
+use Rattle.xf_tree_paths.proofs.RootLaws.{is-root, no-root}
+use Rattle.xf_tree_paths.proofs.VisitLemmas.{apart, seen}
+use Rattle.xf_tree_paths.proofs.StemLemmas.{above-parent, root-none_above}
+use Rattle.xf_def_machine.specs.StateText.{is_place}
 use Rattle.xf_report.specs.Lines.{nodes_at, with_attributes}
 
 -- ---- one node more

@@ -4,7 +4,7 @@ use Rattle.std.specs.Prelude.{filter, bytes_eq}
 use Rattle.std.specs.List.{list_any, slice_split, onto_first}
 use Rattle.std.proofs.lemmas.List.{take_all, take_more, drop_all, drop_more, get_or-drop}
 use Rattle.xf_num.specs.Written.{is_space, is_empty}
-use Rattle.xf_ui.specs.Items.{words}
+use Rattle.xf_def_ui.specs.Items.{words}
 use Rattle.xf_report.specs.Controls.{is_word, parts_after}
 
 -- ---- parts

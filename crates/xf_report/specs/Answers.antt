@@ -1,10 +1,10 @@
 -- The parts of what is written for an accepted event.
 use Rattle.std.specs.Prelude.{ℕ, ◌≡◌, Bool, true, false, List, [], ◌++◌, codes, decimal, Option, Some, None}
-use Rattle.xf_form_machine.specs.declared.note.Note.{Note}
-use Rattle.xf_form_machine.specs.State.{State}
-use Rattle.xf_form_machine.specs.Step.{Posted}
-use Rattle.xf_form_machine.specs.StateText.{spaced, line_of}
-use Rattle.xf_form_machine.specs.Replies.{note_lines}
+use Rattle.xf_def_machine.specs.declared.note.Note.{Note}
+use Rattle.xf_def_machine.specs.State.{State}
+use Rattle.xf_def_machine.specs.Step.{Posted}
+use Rattle.xf_def_machine.specs.StateText.{spaced, line_of}
+use Rattle.xf_def_machine.specs.Replies.{note_lines}
 
 -- the evaluations, where they are counted
 abbrev pub counted_in : Bool → ℕ → Option ℕ

@@ -2,19 +2,19 @@
 use Rattle.std.specs.Prelude.{ℕ, ◌≡◌, Bool, true, false, not, ◌&&◌, List, [], ◌∷◌, ◌++◌, length, codes, decimal, get_or, Option, Some, None, option_map, unwrap_or, bytes_eq, if◌then◌else◌}
 use Rattle.std.specs.List.{flat_map}
 use Rattle.xf_num.specs.Written.{is_space, is_empty}
-use Rattle.xf_ui.specs.declared.answers.Item.{Item}
-use Rattle.xf_ui.specs.Interface.{Interface, Sort, select}
-use Rattle.xf_ui.specs.Elements.{element_at, repeats_around}
-use Rattle.xf_ui.specs.Index.{index_of, rows_now}
-use Rattle.xf_ui.specs.Cases.{cases_of}
-use Rattle.xf_ui.specs.declared.marks.Marks.{Marks}
-use Rattle.xf_ui.specs.Copies.{Copy}
-use Rattle.xf_form_machine.specs.Profile.{Profile}
-use Rattle.xf_form_machine.specs.State.{State}
-use Rattle.xf_form_machine.specs.Surround.{interface, quiet}
-use Rattle.xf_form_machine.specs.NoteLines.{quoted}
-use Rattle.xf_form_machine.specs.StateText.{spaced, line_of, marks_text}
-use Rattle.xf_form_machine.specs.ControlText.{joined, row_numbers, marks_of, value_part, sign_if, is_chosen_in}
+use Rattle.xf_def_ui.specs.declared.answers.Item.{Item}
+use Rattle.xf_def_ui.specs.Interface.{Interface, Sort, select}
+use Rattle.xf_def_ui.specs.Elements.{element_at, repeats_around}
+use Rattle.xf_def_ui.specs.Index.{index_of, rows_now}
+use Rattle.xf_def_ui.specs.Cases.{cases_of}
+use Rattle.xf_def_ui.specs.declared.marks.Marks.{Marks}
+use Rattle.xf_def_ui.specs.Copies.{Copy}
+use Rattle.xf_def_machine.specs.Profile.{Profile}
+use Rattle.xf_def_machine.specs.State.{State}
+use Rattle.xf_def_machine.specs.Surround.{interface, quiet}
+use Rattle.xf_def_machine.specs.NoteLines.{quoted}
+use Rattle.xf_def_machine.specs.StateText.{spaced, line_of, marks_text}
+use Rattle.xf_def_machine.specs.ControlText.{joined, row_numbers, marks_of, value_part, sign_if, is_chosen_in}
 use Rattle.xf_report.specs.declared.control.ShownCopy.{ShownCopy}
 use Rattle.xf_report.specs.Named.{name_in}
 

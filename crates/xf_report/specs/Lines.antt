@@ -2,24 +2,24 @@
 use Rattle.std.specs.Prelude.{ℕ, ◌≡◌, Bool, false, List, [], ◌∷◌, ◌++◌, map, filter, codes, Option, Some, None, if◌then◌else◌}
 use Rattle.std.specs.List.{flat_map}
 use Rattle.xf_name.specs.declared.axis.Axis.TheVariants as axis
-use Rattle.xf_ast.specs.declared.form.Instance.{Instance}
-use Rattle.xf_doc.specs.declared.content.Node.{Node}
-use Rattle.xf_doc.specs.declared.content.Content.{Content}
-use Rattle.xf_doc.specs.declared.content.Content.TheVariants.{Root, Text}
-use Rattle.xf_doc.specs.Forest.{Forest, content_at}
-use Rattle.xf_doc.specs.Visit.{Visit, visits, parent_of, top_of}
-use Rattle.xf_doc.specs.Order.{instance_of}
-use Rattle.xf_doc.specs.Axis.{axis_of}
-use Rattle.xf_doc.specs.Path.{path_of}
-use Rattle.xf_doc.specs.Shape.{has_elements}
-use Rattle.xf_doc.specs.StringValue.{string_value}
-use Rattle.xf_ui.specs.declared.marks.Marks.{Marks}
-use Rattle.xf_form_machine.specs.State.{State}
-use Rattle.xf_form_machine.specs.Surround.{instances_in}
-use Rattle.xf_form_machine.specs.Properties.{marks_in, braced, pair_text}
-use Rattle.xf_form_machine.specs.NoteLines.{quoted}
-use Rattle.xf_form_machine.specs.StateText.{spaced, line_of, marks_text, is_place}
-use Rattle.xf_paths.specs.Holding.{pair_among}
+use Rattle.xf_def_syntax.specs.declared.form.Instance.{Instance}
+use Rattle.xf_def_forest.specs.declared.content.Node.{Node}
+use Rattle.xf_def_forest.specs.declared.content.Content.{Content}
+use Rattle.xf_def_forest.specs.declared.content.Content.TheVariants.{Root, Text}
+use Rattle.xf_def_forest.specs.Forest.{Forest, content_at}
+use Rattle.xf_def_forest.specs.Visit.{Visit, visits, parent_of, top_of}
+use Rattle.xf_def_forest.specs.Order.{instance_of}
+use Rattle.xf_def_forest.specs.Axis.{axis_of}
+use Rattle.xf_def_forest.specs.Path.{path_of}
+use Rattle.xf_def_forest.specs.Shape.{has_elements}
+use Rattle.xf_def_forest.specs.StringValue.{string_value}
+use Rattle.xf_def_ui.specs.declared.marks.Marks.{Marks}
+use Rattle.xf_def_machine.specs.State.{State}
+use Rattle.xf_def_machine.specs.Surround.{instances_in}
+use Rattle.xf_def_machine.specs.Properties.{marks_in, braced, pair_text}
+use Rattle.xf_def_machine.specs.NoteLines.{quoted}
+use Rattle.xf_def_machine.specs.StateText.{spaced, line_of, marks_text, is_place}
+use Rattle.xf_tree_paths.specs.Holding.{pair_among}
 
 -- these are a state's forest, its instances, and the properties of its nodes
 pub record IsOf (s : State) (forest : Forest) (instances : List Instance) (marks : ℕ → Marks) : Type 0 where

@@ -1,9 +1,9 @@
 -- The names of elements, by the interface of a form.
 use Rattle.std.specs.Prelude.{ℕ, suc, List, [], ◌∷◌, ◌++◌, take, count_by, codes, decimal, if◌then◌else◌}
-use Rattle.xf_ast.specs.declared.element.Element as written
-use Rattle.xf_ui.specs.Interface.{Interface, sort_of}
-use Rattle.xf_ui.specs.Elements.{element_at, is_control}
-use Rattle.xf_form_machine.specs.StateText.{id_text}
+use Rattle.xf_def_syntax.specs.declared.element.Element as written
+use Rattle.xf_def_ui.specs.Interface.{Interface, sort_of}
+use Rattle.xf_def_ui.specs.Elements.{element_at, is_control}
+use Rattle.xf_def_machine.specs.StateText.{id_text}
 
 -- ---- numbers
 

@@ -1,12 +1,12 @@
 -- The text that is written for a refusal that is told.
 use Rattle.std.specs.Prelude.{ℕ, ◌≡◌, List, [], ◌∷◌, ◌++◌, codes, Contains}
 use Rattle.std.specs.List.{flat_map}
-use Rattle.xf_form_machine.specs.declared.limit.LimitWord.{LimitWord}
-use Rattle.xf_form_machine.specs.StateText.{spaced, line_of}
-use Rattle.xf_form_machine.specs.Replies.{limit_text, refusal_texts}
-use Rattle.xf_form_machine.specs.Told.{told}
-use Rattle.xf_form_machine.specs.declared.refusal.Refusal.{Refusal}
-use Rattle.xf_form_machine.specs.declared.refusal.Refusal.TheVariants.{NoSuchTarget, Disabled, ReadOnly, NotAnItem, BadIndex, PropertyTwice, CalculateOnParent, Binding, Circular, Limit, Budget, Depth, Sends}
+use Rattle.xf_def_machine.specs.declared.limit.LimitWord.{LimitWord}
+use Rattle.xf_def_machine.specs.StateText.{spaced, line_of}
+use Rattle.xf_def_machine.specs.Replies.{limit_text, refusal_texts}
+use Rattle.xf_def_machine.specs.Told.{told}
+use Rattle.xf_def_machine.specs.declared.refusal.Refusal.{Refusal}
+use Rattle.xf_def_machine.specs.declared.refusal.Refusal.TheVariants.{NoSuchTarget, Disabled, ReadOnly, NotAnItem, BadIndex, PropertyTwice, CalculateOnParent, Binding, Circular, Limit, Budget, Depth, Sends}
 
 abbrev pub first_of : List (List ℕ) → List ℕ
 first_of [] = []

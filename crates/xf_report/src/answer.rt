@@ -1,14 +1,14 @@
 //! What is written for an accepted event.
 ghost use Rattle.std.specs.Prelude.{◌≡◌, ◌++◌, Bool, OnOk, string_bytes};
-ghost use Rattle.xf_form_machine.specs.Replies.{ok_text};
-ghost use Rattle.xf_form_machine.specs.State.{State};
-ghost use Rattle.xf_form_machine.specs.Step.{Posted};
+ghost use Rattle.xf_def_machine.specs.Replies.{ok_text};
+ghost use Rattle.xf_def_machine.specs.State.{State};
+ghost use Rattle.xf_def_machine.specs.Step.{Posted};
 ghost use Rattle.xf_report.specs.Answers.{IsAnswer, answer_text, count_text};
 
 use crate::note::push_notes;
 use crate::text::push_number;
 use std::alloc::{AllocError, Global};
-use xf_form_machine::Note;
+use xf_def_machine::Note;
 
 /// Appends the lines of an accepted event: its notes, how many events were accepted with it, and where they are counted how many
 /// evaluations its recalculations made.

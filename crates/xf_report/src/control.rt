@@ -2,10 +2,10 @@
 ghost use Rattle.std.specs.Prelude.{◌≡◌, ◌++◌, IfOk, OnOk, option_map, string_bytes};
 ghost use Rattle.std.specs.List.{flat_map, list_any};
 ghost use Rattle.std.specs.Str.{bytes_eq};
-ghost use Rattle.xf_form_machine.specs.ControlText.{is_chosen_in, joined, sign_if, value_part};
-ghost use Rattle.xf_ui.specs.Elements.{element_at};
-ghost use Rattle.xf_ui.specs.Interface.{interface_of, sort_of};
-ghost use Rattle.xf_ui.specs.Items.{is_chosen, words};
+ghost use Rattle.xf_def_machine.specs.ControlText.{is_chosen_in, joined, sign_if, value_part};
+ghost use Rattle.xf_def_ui.specs.Elements.{element_at};
+ghost use Rattle.xf_def_ui.specs.Interface.{interface_of, sort_of};
+ghost use Rattle.xf_def_ui.specs.Items.{is_chosen, words};
 ghost use Rattle.xf_report.specs.Controls.{behind_comma, control_line, copy_text, is_word, item_text, item_texts, many_in, repeat_text, rows_in, seen_copy, switch_text};
 ghost use Rattle.xf_report.specs.Named.{name_in, numbers_of};
 
@@ -13,9 +13,9 @@ use crate::marks::push_marks;
 use crate::names::{element_in, push_name};
 use crate::text::{push_number, push_quoted};
 use std::alloc::{AllocError, Global};
-use xf_ast::{Control, Form, Kind};
+use xf_def_syntax::{Control, Form, Kind};
+use xf_def_ui::{Item, Marks};
 use xf_num::is_space;
-use xf_ui::{Item, Marks};
 
 /// A copy of a control, as it is printed.
 #[derive(Clone, Copy)]

@@ -1,27 +1,27 @@
 //! The lines of an instance in the text of a state.
 ghost use Rattle.std.specs.Prelude.{◌≡◌, ◌++◌, ◌<◌, ◌^◌, IfOk, OnOk, codes, length, string_bytes};
 ghost use Rattle.std.specs.List.{flat_map};
-ghost use Rattle.xf_doc.specs.Forest.{IsLive};
-ghost use Rattle.xf_doc.specs.Path.{path_of};
-ghost use Rattle.xf_doc.specs.StringValue.{string_value};
-ghost use Rattle.xf_doc.specs.Visit.{visits, parent_of};
-ghost use Rattle.xf_form_machine.specs.Cycles.{counted_from};
-ghost use Rattle.xf_form_machine.specs.Properties.{pair_text};
-ghost use Rattle.xf_form_machine.specs.State.{State};
-ghost use Rattle.xf_form_machine.specs.StateText.{instance_lines, line_of, marks_text, spaced};
+ghost use Rattle.xf_def_forest.specs.Forest.{IsLive};
+ghost use Rattle.xf_def_forest.specs.Path.{path_of};
+ghost use Rattle.xf_def_forest.specs.StringValue.{string_value};
+ghost use Rattle.xf_def_forest.specs.Visit.{visits, parent_of};
+ghost use Rattle.xf_def_machine.specs.Cycles.{counted_from};
+ghost use Rattle.xf_def_machine.specs.Properties.{pair_text};
+ghost use Rattle.xf_def_machine.specs.State.{State};
+ghost use Rattle.xf_def_machine.specs.StateText.{instance_lines, line_of, marks_text, spaced};
 ghost use Rattle.xf_report.specs.Lines.{IsOf, block_of, block_text, has_elements_at, line_at, line_by, text_line_if, value_text};
-ghost use Rattle.xf_paths.specs.Holding.{pair_among};
-ghost use Rattle.xf_slots.specs.Seen.{seen_content};
+ghost use Rattle.xf_tree_paths.specs.Holding.{pair_among};
+ghost use Rattle.xf_tree_contents.specs.Seen.{seen_content};
 
 use crate::marks::push_marks;
 use crate::nodes::nodes_at;
 use crate::text::{push_quoted, push_string};
 use std::alloc::{AllocError, Global};
-use xf_ast::Instance;
-use xf_doc::{NodeId, NodeList};
-use xf_paths::{Paths, braces_of, pair_among, push_pair};
+use xf_def_forest::{NodeId, NodeList};
+use xf_def_syntax::Instance;
+use xf_def_ui::NodeMarks;
 use xf_tree::{Forest, Seen};
-use xf_ui::NodeMarks;
+use xf_tree_paths::{Paths, braces_of, pair_among, push_pair};
 
 /// Appends the lines of the instance with this place among those of the form: one for it, and one for each of its elements, attributes
 /// and texts beside elements. It costs what is written, and a look at each node.

@@ -1,9 +1,9 @@
 //! The properties of nodes and controls, as they are printed.
 ghost use Rattle.std.specs.Prelude.{◌≡◌, ◌++◌, OnOk, string_bytes};
-ghost use Rattle.xf_form_machine.specs.StateText.{mark_if, marks_text};
+ghost use Rattle.xf_def_machine.specs.StateText.{mark_if, marks_text};
 
 use std::alloc::AllocError;
-use xf_ui::Marks;
+use xf_def_ui::Marks;
 
 /// Appends a letter or a dash for each property.
 pub fn push_marks(text: &mut String, marks: Marks) -> Result<(), AllocError>

@@ -1,13 +1,13 @@
 //! The names by which the elements of a form are printed.
 ghost use Rattle.std.specs.Prelude.{◌≡◌, ◌++◌, IfOk, OnOk, option_map, slice_get, string_bytes};
-ghost use Rattle.xf_form_machine.specs.StateText.{id_text};
-ghost use Rattle.xf_ui.specs.Elements.{element_at, is_control};
-ghost use Rattle.xf_ui.specs.Interface.{interface_of, sort_of};
+ghost use Rattle.xf_def_machine.specs.StateText.{id_text};
+ghost use Rattle.xf_def_ui.specs.Elements.{element_at, is_control};
+ghost use Rattle.xf_def_ui.specs.Interface.{interface_of, sort_of};
 ghost use Rattle.xf_report.specs.Named.{name_in, number_in, numbers_of};
 
 use crate::text::{push_number, push_quoted};
 use std::alloc::{AllocError, Global};
-use xf_ast::{Element, Form, Kind};
+use xf_def_syntax::{Element, Form, Kind};
 use xf_name::is_part;
 
 /// Of each element the number that it has as a control or container: its place among these, from 1. Behind them all that of one more.

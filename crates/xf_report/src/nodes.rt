@@ -1,14 +1,14 @@
 //! The nodes of an instance.
 ghost use Rattle.std.specs.Prelude.{◌≡◌, ◌++◌, IfOk, OnOk};
 ghost use Rattle.std.specs.List.{flat_map};
-ghost use Rattle.xf_doc.specs.Axis.{axis_of};
-ghost use Rattle.xf_doc.specs.Forest.{IsLive};
-ghost use Rattle.xf_doc.specs.Order.{in_order};
-ghost use Rattle.xf_doc.specs.Visit.{visits};
+ghost use Rattle.xf_def_forest.specs.Axis.{axis_of};
+ghost use Rattle.xf_def_forest.specs.Forest.{IsLive};
+ghost use Rattle.xf_def_forest.specs.Order.{in_order};
+ghost use Rattle.xf_def_forest.specs.Visit.{visits};
 ghost use Rattle.xf_report.specs.Lines.{nodes_at, with_attributes};
 
 use std::alloc::{AllocError, Global};
-use xf_doc::{NodeId, NodeList};
+use xf_def_forest::{NodeId, NodeList};
 use xf_name::Axis;
 use xf_tree::Forest;
 

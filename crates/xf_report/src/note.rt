@@ -1,11 +1,11 @@
 //! The lines in which notes are told.
 ghost use Rattle.std.specs.Prelude.{◌≡◌, ◌++◌, OnOk, string_bytes};
-ghost use Rattle.xf_form_machine.specs.NoteLines.{note_line, note_text};
-ghost use Rattle.xf_form_machine.specs.Replies.{note_lines};
+ghost use Rattle.xf_def_machine.specs.NoteLines.{note_line, note_text};
+ghost use Rattle.xf_def_machine.specs.Replies.{note_lines};
 
 use crate::text::{push_number, push_quoted};
 use std::alloc::{AllocError, Global};
-use xf_form_machine::Note;
+use xf_def_machine::Note;
 
 /// Appends a line for each note.
 pub fn push_notes(alloc: Global, text: &mut String, notes: &[Note]) -> Result<(), AllocError>

@@ -1,14 +1,14 @@
 //! What is written for a refused event, and of a refused form.
 ghost use Rattle.std.specs.Prelude.{◌≡◌, ◌++◌, OnOk, string_bytes};
 ghost use Rattle.std.specs.List.{flat_map};
-ghost use Rattle.xf_form_machine.specs.FormReplies.{event_refusal, ready_text};
-ghost use Rattle.xf_form_machine.specs.Replies.{limit_text};
-ghost use Rattle.xf_form_machine.specs.StateText.{line_of, spaced};
-ghost use Rattle.xf_form_machine.specs.Told.{told};
+ghost use Rattle.xf_def_machine.specs.FormReplies.{event_refusal, ready_text};
+ghost use Rattle.xf_def_machine.specs.Replies.{limit_text};
+ghost use Rattle.xf_def_machine.specs.StateText.{line_of, spaced};
+ghost use Rattle.xf_def_machine.specs.Told.{told};
 ghost use Rattle.xf_report.specs.Refusals.{construct_text, details, refusal_text};
 
 use std::alloc::AllocError;
-use xf_form_machine::{LimitWord, Refusal};
+use xf_def_machine::{LimitWord, Refusal};
 use xf_name::Word;
 
 /// Appends the line of a refused event.

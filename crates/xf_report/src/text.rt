@@ -1,6 +1,6 @@
 //! Strings, numbers and ids as they are written.
 ghost use Rattle.std.specs.Prelude.{◌≡◌, ◌++◌, OnOk, decimal, string_bytes};
-ghost use Rattle.xf_form_machine.specs.NoteLines.{quoted};
+ghost use Rattle.xf_def_machine.specs.NoteLines.{quoted};
 
 use itoa::Buffer;
 use serde_json::Value;

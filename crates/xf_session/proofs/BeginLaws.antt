@@ -13,18 +13,18 @@ use Rattle.xf_journal.specs.Held.{Log, held}
 use Rattle.xf_journal.specs.Moments.{OnlyLooks, IsOutside, HasDiskCause}
 use Rattle.xf_journal.specs.Scanned.{journal_of, new_log, scanned_of, scan_of}
 use Rattle.xf_disk.specs.declared.slot.Slot.TheVariants.{A}
-use Rattle.xf_form_machine.specs.Program.{Program}
-use Rattle.xf_form_machine.specs.State.{State}
-use Rattle.xf_form_machine.specs.Replies.{answers_in}
-use Rattle.xf_form_machine.specs.Start.{start}
-use Rattle.xf_form_machine.specs.Step.{Outcome}
-use Rattle.xf_processor.specs.Formed.{profile}
-use Rattle.xf_history.specs.Sessions as history
-use Rattle.xf_history.specs.Sessions.{fresh_session}
-use Rattle.xf_history.specs.Runs.{Item}
-use Rattle.xf_history.specs.Images.{StandsForNone}
-use Rattle.xf_history.specs.Opening.{Opened, opened, no_session, other_form, damaged}
-use Rattle.xf_history.specs.Usual.{usual}
+use Rattle.xf_def_machine.specs.Program.{Program}
+use Rattle.xf_def_machine.specs.State.{State}
+use Rattle.xf_def_machine.specs.Replies.{answers_in}
+use Rattle.xf_def_machine.specs.Start.{start}
+use Rattle.xf_def_machine.specs.Step.{Outcome}
+use Rattle.xf_def_form.specs.Formed.{profile}
+use Rattle.xf_def_sessions.specs.Sessions as history
+use Rattle.xf_def_sessions.specs.Sessions.{fresh_session}
+use Rattle.xf_def_sessions.specs.Runs.{Item}
+use Rattle.xf_def_sessions.specs.Images.{StandsForNone}
+use Rattle.xf_def_sessions.specs.Opening.{Opened, opened, no_session, other_form, damaged}
+use Rattle.xf_def_sessions.specs.Usual.{usual}
 use Rattle.xf_session.specs.declared.fault.BeginFault.{BeginFault}
 use Rattle.xf_session.specs.declared.fault.BeginFault.TheVariants as begin
 use Rattle.xf_session.specs.declared.fault.OpenFault.{OpenFault}

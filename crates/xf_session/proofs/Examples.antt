@@ -8,10 +8,10 @@ use Rattle.xf_disk.specs.Image.{Image}
 use Rattle.xf_num.specs.Number.{scale}
 use Rattle.xf_journal.specs.Numbers.{four, from_four, from_eight}
 use Rattle.xf_line.specs.Line.{asked_by}
-use Rattle.xf_form_machine.specs.Program.{Program}
-use Rattle.xf_form_machine.specs.Examples.{profile}
-use Rattle.xf_history.specs.Opening.{opened, no_session, other_form, damaged}
-use Rattle.xf_history.specs.Examples.{one_input, one_text, slot_of, set_entry, bytes_with, first_bytes, second_bytes, begun, after_set, set_slot, compact_slot}
+use Rattle.xf_def_machine.specs.Program.{Program}
+use Rattle.xf_def_machine.specs.Examples.{profile}
+use Rattle.xf_def_sessions.specs.Opening.{opened, no_session, other_form, damaged}
+use Rattle.xf_def_sessions.specs.Examples.{one_input, one_text, slot_of, set_entry, bytes_with, first_bytes, second_bytes, begun, after_set, set_slot, compact_slot}
 use Rattle.xf_session.specs.Opening.{opening}
 
 -- in the first slot alone

@@ -21,21 +21,21 @@ use Rattle.std.specs.List.{list_all}
 use Rattle.xf_store.specs.Replies.{is_short}
 use Rattle.xf_journal.proofs.EntryLemmas.{all_written}
 use Rattle.xf_journal.proofs.WithinLemmas.{AnswersWithin, answers_within}
-use Rattle.xf_form_machine.specs.Program.{Program}
-use Rattle.xf_form_machine.specs.State.{State}
-use Rattle.xf_form_machine.specs.Run.{if_exact}
-use Rattle.xf_form_machine.specs.Start.{start}
-use Rattle.xf_form_machine.specs.Step.{step}
-use Rattle.xf_processor.specs.Formed.{profile}
-use Rattle.xf_history.specs.Sessions as history
-use Rattle.xf_history.specs.Sessions.{fresh_session}
-use Rattle.xf_history.specs.History.{after_event}
-use Rattle.xf_history.specs.Runs.{Item, line, adopt, undo, redo, Accepts, Goes, began, began_with, after_line}
-use Rattle.xf_history.specs.Images.{item_by, item_of, items_of, answers_at_base, StandsForNone}
-use Rattle.xf_history.specs.Opening.{opened, difference_from, first_gate, at_cut, state_after, then_entries, replayed}
-use Rattle.xf_history.specs.Usual.{usual}
-use Rattle.xf_history.proofs.RunLaws.{IsLine, AreLines, ran-on, one-more, mapped}
-use Rattle.xf_history.proofs.EntryLaws.{joined-items, items-lines, items-more}
+use Rattle.xf_def_machine.specs.Program.{Program}
+use Rattle.xf_def_machine.specs.State.{State}
+use Rattle.xf_def_machine.specs.Run.{if_exact}
+use Rattle.xf_def_machine.specs.Start.{start}
+use Rattle.xf_def_machine.specs.Step.{step}
+use Rattle.xf_def_form.specs.Formed.{profile}
+use Rattle.xf_def_sessions.specs.Sessions as history
+use Rattle.xf_def_sessions.specs.Sessions.{fresh_session}
+use Rattle.xf_def_sessions.specs.History.{after_event}
+use Rattle.xf_def_sessions.specs.Runs.{Item, line, adopt, undo, redo, Accepts, Goes, began, began_with, after_line}
+use Rattle.xf_def_sessions.specs.Images.{item_by, item_of, items_of, answers_at_base, StandsForNone}
+use Rattle.xf_def_sessions.specs.Opening.{opened, difference_from, first_gate, at_cut, state_after, then_entries, replayed}
+use Rattle.xf_def_sessions.specs.Usual.{usual}
+use Rattle.xf_def_sessions.proofs.RunLaws.{IsLine, AreLines, ran-on, one-more, mapped}
+use Rattle.xf_def_sessions.proofs.EntryLaws.{joined-items, items-lines, items-more}
 use Rattle.xf_session.specs.Opening.{start_with, opening_from, opening_form, opening_held, opening}
 use Rattle.xf_session.specs.Keeping.{LogKeeps, KeepsAt, Keeps, KeepsOne, KeepsNoItem}
 use Rattle.xf_session.specs.Replaying.{start_image}

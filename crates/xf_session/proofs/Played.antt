@@ -13,21 +13,21 @@ use Rattle.xf_journal.specs.declared.image.Scanned.{Scanned}
 use Rattle.xf_journal.specs.Entry.{written_bytes, is_within, are_within}
 use Rattle.xf_journal.specs.Held.{Log}
 use Rattle.xf_journal.specs.Scanned.{scanned_of}
-use Rattle.xf_form_machine.specs.declared.refusal.Refusal.{Refusal}
-use Rattle.xf_form_machine.specs.Profile.{Profile}
-use Rattle.xf_form_machine.specs.Program.{Program}
-use Rattle.xf_form_machine.specs.State.{State}
-use Rattle.xf_form_machine.specs.Refusal as machine
-use Rattle.xf_form_machine.specs.Construct.{construct}
-use Rattle.xf_form_machine.specs.Flow.{◌>>=◌}
-use Rattle.xf_form_machine.specs.Replies.{answers_in}
-use Rattle.xf_form_machine.specs.Run.{same_answer, are_those_of, if_exact}
-use Rattle.xf_form_machine.specs.Start.{readied, start}
-use Rattle.xf_form_machine.specs.Step.{Posted, Outcome, accepted, refused, outcome, at_end}
-use Rattle.xf_processor.specs.Formed.{profile}
-use Rattle.xf_history.specs.Sessions.{fresh_session}
-use Rattle.xf_history.specs.Images.{item_of}
-use Rattle.xf_history.specs.Opening.{Opened, damaged, at_cut, state_after, then_entries, replayed, first_gate, base_offset}
+use Rattle.xf_def_machine.specs.declared.refusal.Refusal.{Refusal}
+use Rattle.xf_def_machine.specs.Profile.{Profile}
+use Rattle.xf_def_machine.specs.Program.{Program}
+use Rattle.xf_def_machine.specs.State.{State}
+use Rattle.xf_def_machine.specs.Refusal as machine
+use Rattle.xf_def_machine.specs.Construct.{construct}
+use Rattle.xf_def_machine.specs.Flow.{◌>>=◌}
+use Rattle.xf_def_machine.specs.Replies.{answers_in}
+use Rattle.xf_def_machine.specs.Run.{same_answer, are_those_of, if_exact}
+use Rattle.xf_def_machine.specs.Start.{readied, start}
+use Rattle.xf_def_machine.specs.Step.{Posted, Outcome, accepted, refused, outcome, at_end}
+use Rattle.xf_def_form.specs.Formed.{profile}
+use Rattle.xf_def_sessions.specs.Sessions.{fresh_session}
+use Rattle.xf_def_sessions.specs.Images.{item_of}
+use Rattle.xf_def_sessions.specs.Opening.{Opened, damaged, at_cut, state_after, then_entries, replayed, first_gate, base_offset}
 use Rattle.xf_session.specs.declared.fault.EventFault.{EventFault}
 use Rattle.xf_session.specs.declared.fault.EventFault.TheVariants as processor_fault
 use Rattle.xf_session.specs.Processing.{IsAccepted, IsPosted, IsRefusedAfter, IsStarted, started}

@@ -16,15 +16,15 @@ use Rattle.xf_journal.specs.declared.journal.Journal.{Journal}
 use Rattle.xf_journal.specs.Entry.{written_bytes}
 use Rattle.xf_journal.specs.Held.{Log}
 use Rattle.xf_journal.specs.Scanned.{IsAtRest, HoldsEither, with_accepted}
-use Rattle.xf_form_machine.specs.State.{State}
-use Rattle.xf_form_machine.specs.Replies.{answers_in, ok_text}
-use Rattle.xf_form_machine.specs.Run.{same_answer, if_exact}
-use Rattle.xf_form_machine.specs.Step.{Outcome, Posted, step}
-use Rattle.xf_processor.specs.Formed.{profile}
-use Rattle.xf_history.specs.Sessions as history
-use Rattle.xf_history.specs.History.{after_event}
-use Rattle.xf_history.specs.Runs.{Item, line, after_line}
-use Rattle.xf_history.specs.Usual.{usual}
+use Rattle.xf_def_machine.specs.State.{State}
+use Rattle.xf_def_machine.specs.Replies.{answers_in, ok_text}
+use Rattle.xf_def_machine.specs.Run.{same_answer, if_exact}
+use Rattle.xf_def_machine.specs.Step.{Outcome, Posted, step}
+use Rattle.xf_def_form.specs.Formed.{profile}
+use Rattle.xf_def_sessions.specs.Sessions as history
+use Rattle.xf_def_sessions.specs.History.{after_event}
+use Rattle.xf_def_sessions.specs.Runs.{Item, line, after_line}
+use Rattle.xf_def_sessions.specs.Usual.{usual}
 use Rattle.xf_session.specs.declared.fault.EventFault.{EventFault}
 use Rattle.xf_session.specs.declared.fault.EventFault.TheVariants as processor_fault
 use Rattle.xf_session.specs.declared.fault.PostFault.{PostFault}

@@ -12,16 +12,16 @@ use Rattle.xf_journal.specs.declared.journal.Journal.{Journal}
 use Rattle.xf_journal.specs.Entry.{is_within}
 use Rattle.xf_journal.specs.Held.{held}
 use Rattle.xf_journal.specs.Scanned.{IsAtRest, IsReady, HoldsOldOr, journal_of, new_log}
-use Rattle.xf_form_machine.specs.Program.{Program}
-use Rattle.xf_form_machine.specs.declared.refusal.Refusal.{Refusal}
-use Rattle.xf_form_machine.specs.State.{State}
-use Rattle.xf_form_machine.specs.Replies.{answers_in}
-use Rattle.xf_form_machine.specs.Run.{if_exact}
-use Rattle.xf_form_machine.specs.Start.{start}
-use Rattle.xf_form_machine.specs.Step.{Outcome}
-use Rattle.xf_processor.specs.Formed.{profile}
-use Rattle.xf_history.specs.Sessions.{fresh_session}
-use Rattle.xf_history.specs.Images.{StandsForNone}
+use Rattle.xf_def_machine.specs.Program.{Program}
+use Rattle.xf_def_machine.specs.declared.refusal.Refusal.{Refusal}
+use Rattle.xf_def_machine.specs.State.{State}
+use Rattle.xf_def_machine.specs.Replies.{answers_in}
+use Rattle.xf_def_machine.specs.Run.{if_exact}
+use Rattle.xf_def_machine.specs.Start.{start}
+use Rattle.xf_def_machine.specs.Step.{Outcome}
+use Rattle.xf_def_form.specs.Formed.{profile}
+use Rattle.xf_def_sessions.specs.Sessions.{fresh_session}
+use Rattle.xf_def_sessions.specs.Images.{StandsForNone}
 use Rattle.xf_session.specs.declared.fault.BeginFault.{BeginFault}
 use Rattle.xf_session.specs.declared.fault.BeginFault.TheVariants as begin
 use Rattle.xf_session.specs.declared.fault.EventFault.{EventFault}

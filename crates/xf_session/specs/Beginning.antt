@@ -12,18 +12,18 @@ use Rattle.xf_journal.specs.declared.journal.Journal.{Journal}
 use Rattle.xf_journal.specs.Entry.{is_within}
 use Rattle.xf_journal.specs.Held.{Log, held}
 use Rattle.xf_journal.specs.Scanned.{IsAtRest, journal_of, new_log}
-use Rattle.xf_form_machine.specs.Program.{Program}
-use Rattle.xf_form_machine.specs.State.{State}
-use Rattle.xf_form_machine.specs.Construct.{construct}
-use Rattle.xf_form_machine.specs.Replies.{answers_in, note_lines}
-use Rattle.xf_form_machine.specs.Start.{start}
-use Rattle.xf_form_machine.specs.Step.{Posted, Outcome}
-use Rattle.xf_processor.specs.Formed.{profile}
-use Rattle.xf_history.specs.Sessions as history
-use Rattle.xf_history.specs.Runs.{Item}
-use Rattle.xf_history.specs.Images.{StandsForNone}
-use Rattle.xf_history.specs.Opening.{Opened, opened, no_session, other_form, damaged}
-use Rattle.xf_history.specs.Usual.{usual}
+use Rattle.xf_def_machine.specs.Program.{Program}
+use Rattle.xf_def_machine.specs.State.{State}
+use Rattle.xf_def_machine.specs.Construct.{construct}
+use Rattle.xf_def_machine.specs.Replies.{answers_in, note_lines}
+use Rattle.xf_def_machine.specs.Start.{start}
+use Rattle.xf_def_machine.specs.Step.{Posted, Outcome}
+use Rattle.xf_def_form.specs.Formed.{profile}
+use Rattle.xf_def_sessions.specs.Sessions as history
+use Rattle.xf_def_sessions.specs.Runs.{Item}
+use Rattle.xf_def_sessions.specs.Images.{StandsForNone}
+use Rattle.xf_def_sessions.specs.Opening.{Opened, opened, no_session, other_form, damaged}
+use Rattle.xf_def_sessions.specs.Usual.{usual}
 use Rattle.xf_session.specs.declared.fault.BeginFault.{BeginFault}
 use Rattle.xf_session.specs.declared.fault.BeginFault.TheVariants.{Refused, OtherForm, Damaged, DiskFault, Memory}
 use Rattle.xf_session.specs.declared.fault.ResumeFault.{ResumeFault}

@@ -4,11 +4,11 @@ use Rattle.xf_disk.specs.Image.{Image}
 use Rattle.xf_store.specs.declared.answers.Answer.{Answer}
 use Rattle.xf_journal.specs.Held.{Log, held}
 use Rattle.xf_journal.specs.Scanned.{IsAtRest}
-use Rattle.xf_form_machine.specs.State.{State}
-use Rattle.xf_history.specs.Sessions as history
-use Rattle.xf_history.specs.Runs.{Item}
-use Rattle.xf_history.specs.Images.{FromStart, StandsForNone}
-use Rattle.xf_history.specs.Usual.{usual}
+use Rattle.xf_def_machine.specs.State.{State}
+use Rattle.xf_def_sessions.specs.Sessions as history
+use Rattle.xf_def_sessions.specs.Runs.{Item}
+use Rattle.xf_def_sessions.specs.Images.{FromStart, StandsForNone}
+use Rattle.xf_def_sessions.specs.Usual.{usual}
 use Rattle.xf_session.specs.declared.session.Session.{Session}
 
 -- ---- journals and images

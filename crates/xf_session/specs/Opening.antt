@@ -6,13 +6,13 @@ use Rattle.xf_store.specs.declared.answers.Answer.{Answer}
 use Rattle.xf_journal.specs.declared.fault.JournalFault.{JournalFault}
 use Rattle.xf_journal.specs.declared.fault.JournalFault.TheVariants.{DiskFault, Damaged, Memory}
 use Rattle.xf_journal.specs.Held.{Log, held}
-use Rattle.xf_form_machine.specs.Profile.{Profile}
-use Rattle.xf_form_machine.specs.Program.{Program}
-use Rattle.xf_form_machine.specs.State.{State}
-use Rattle.xf_form_machine.specs.Run.{if_exact}
-use Rattle.xf_form_machine.specs.Start.{start}
-use Rattle.xf_history.specs.Images.{answers_at_base}
-use Rattle.xf_history.specs.Opening.{Opened, no_session, other_form, damaged, difference_from, base_offset, first_gate, replayed}
+use Rattle.xf_def_machine.specs.Profile.{Profile}
+use Rattle.xf_def_machine.specs.Program.{Program}
+use Rattle.xf_def_machine.specs.State.{State}
+use Rattle.xf_def_machine.specs.Run.{if_exact}
+use Rattle.xf_def_machine.specs.Start.{start}
+use Rattle.xf_def_sessions.specs.Images.{answers_at_base}
+use Rattle.xf_def_sessions.specs.Opening.{Opened, no_session, other_form, damaged, difference_from, base_offset, first_gate, replayed}
 
 -- the state after the start with exactly the answers of a base
 abbrev pub start_with : Profile → Program → Option (List Answer) → Option State

@@ -11,10 +11,10 @@ use Rattle.xf_store.specs.declared.call.StoreCall.{StoreCall}
 use Rattle.xf_store.specs.Called.{Called, Told}
 use Rattle.xf_store.specs.Replay.{Covers}
 use Rattle.xf_journal.specs.Entry.{written_bytes}
-use Rattle.xf_form_machine.specs.State.{State}
-use Rattle.xf_form_machine.specs.Replies.{answers_in, ok_text}
-use Rattle.xf_form_machine.specs.Step.{Posted, Outcome}
-use Rattle.xf_history.specs.Runs.{Item, line}
+use Rattle.xf_def_machine.specs.State.{State}
+use Rattle.xf_def_machine.specs.Replies.{answers_in, ok_text}
+use Rattle.xf_def_machine.specs.Step.{Posted, Outcome}
+use Rattle.xf_def_sessions.specs.Runs.{Item, line}
 use Rattle.xf_session.specs.declared.fault.PostFault.{PostFault}
 use Rattle.xf_session.specs.declared.fault.PostFault.TheVariants.{Refused, NotBuilt, DiskFault, Broken, Memory}
 use Rattle.xf_session.specs.declared.session.Session.{Session}

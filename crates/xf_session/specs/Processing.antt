@@ -4,13 +4,13 @@ use Rattle.xf_store.specs.declared.answers.Answer.{Answer}
 use Rattle.xf_store.specs.declared.call.StoreCall.{StoreCall}
 use Rattle.xf_store.specs.Called.{Called, Told}
 use Rattle.xf_store.specs.Replay.{Covers}
-use Rattle.xf_form_machine.specs.declared.refusal.Refusal.{Refusal}
-use Rattle.xf_form_machine.specs.State.{State}
-use Rattle.xf_form_machine.specs.Replies.{answers_in, note_lines, ok_text}
-use Rattle.xf_form_machine.specs.Start.{readied}
-use Rattle.xf_form_machine.specs.Step.{Posted, Outcome, accepted, refused, outcome, at_end}
-use Rattle.xf_form_machine.specs.Told.{Tells}
-use Rattle.xf_processor.specs.Formed.{profile}
+use Rattle.xf_def_machine.specs.declared.refusal.Refusal.{Refusal}
+use Rattle.xf_def_machine.specs.State.{State}
+use Rattle.xf_def_machine.specs.Replies.{answers_in, note_lines, ok_text}
+use Rattle.xf_def_machine.specs.Start.{readied}
+use Rattle.xf_def_machine.specs.Step.{Posted, Outcome, accepted, refused, outcome, at_end}
+use Rattle.xf_def_machine.specs.Told.{Tells}
+use Rattle.xf_def_form.specs.Formed.{profile}
 use Rattle.xf_session.specs.declared.fault.EventFault.{EventFault}
 use Rattle.xf_session.specs.declared.fault.EventFault.TheVariants.{Refused, Memory}
 

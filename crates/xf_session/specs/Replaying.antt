@@ -11,12 +11,12 @@ use Rattle.xf_journal.specs.declared.fault.JournalFault.{JournalFault}
 use Rattle.xf_journal.specs.declared.fault.JournalFault.TheVariants as journal
 use Rattle.xf_journal.specs.Held.{Log}
 use Rattle.xf_journal.specs.Scanned.{scanned_of}
-use Rattle.xf_form_machine.specs.Profile.{Profile}
-use Rattle.xf_form_machine.specs.State.{State}
-use Rattle.xf_form_machine.specs.Run.{same_answer}
-use Rattle.xf_history.specs.Images.{answers_at_base, item_of}
-use Rattle.xf_history.specs.Sessions as history
-use Rattle.xf_history.specs.Opening.{Opened, opened, other_form, damaged, difference_from, base_offset, state_after}
+use Rattle.xf_def_machine.specs.Profile.{Profile}
+use Rattle.xf_def_machine.specs.State.{State}
+use Rattle.xf_def_machine.specs.Run.{same_answer}
+use Rattle.xf_def_sessions.specs.Images.{answers_at_base, item_of}
+use Rattle.xf_def_sessions.specs.Sessions as history
+use Rattle.xf_def_sessions.specs.Opening.{Opened, opened, other_form, damaged, difference_from, base_offset, state_after}
 use Rattle.xf_session.specs.declared.fault.OpenFault.{OpenFault}
 use Rattle.xf_session.specs.declared.fault.OpenFault.TheVariants.{OtherForm, Damaged, DiskFault, Memory}
 use Rattle.xf_session.specs.declared.looking.Found.{Found}

@@ -1,6 +1,6 @@
 //! Answers of a store, copied and compared.
 ghost use Rattle.std.specs.Prelude.{◌≡◌, IfOk};
-ghost use Rattle.xf_form_machine.specs.Run.{same_answer};
+ghost use Rattle.xf_def_machine.specs.Run.{same_answer};
 ghost use Rattle.xf_session.specs.Replaying.{same_answers};
 
 use std::alloc::{AllocError, Global};

@@ -1,7 +1,7 @@
 //! A session is opened from the slots, or begun where they hold none.
 ghost use Rattle.std.specs.Prelude.{◌≡◌, ◌≤◌, None, false, length, IsTrue, IfOk, string_bytes};
 ghost use Rattle.xf_base.specs.Limits.{form_limit};
-ghost use Rattle.xf_form_machine.specs.Program.{Program};
+ghost use Rattle.xf_def_machine.specs.Program.{Program};
 ghost use Rattle.xf_journal.specs.Moments.{OnlyLooks};
 ghost use Rattle.xf_session.specs.Keeping.{IsAtDisk};
 ghost use Rattle.xf_session.specs.Beginning.{IsBuilt, BeginsIn, ResumesIn, Spares, HasBeginCause, HasResumeCause};

@@ -1,8 +1,8 @@
 //! Why a session is not opened, and why an event is not taken.
 
 use std::alloc::AllocError;
+use xf_def_machine::Refusal;
 use xf_disk::Slot;
-use xf_form_machine::Refusal;
 use xf_io::Failed;
 use xf_journal::JournalFault;
 

@@ -5,8 +5,8 @@ ghost use Rattle.xf_journal.specs.Entry.{are_within};
 ghost use Rattle.xf_journal.specs.Held.{Log, held};
 ghost use Rattle.xf_journal.specs.Moments.{OnlyLooks};
 ghost use Rattle.xf_journal.specs.Scanned.{scanned_of};
-ghost use Rattle.xf_history.specs.Images.{answers_at_base};
-ghost use Rattle.xf_history.specs.Opening.{base_offset, difference_from};
+ghost use Rattle.xf_def_sessions.specs.Images.{answers_at_base};
+ghost use Rattle.xf_def_sessions.specs.Opening.{base_offset, difference_from};
 ghost use Rattle.xf_session.specs.declared.fault.OpenFault.TheVariants.{Damaged};
 ghost use Rattle.xf_session.specs.Replaying.{IsFound, IsFoundWithin, IsOfReading, Looks, HasOpenCause};
 

@@ -1,9 +1,9 @@
 //! Who runs a form.
 ghost use Rattle.std.specs.Prelude.{◌≡◌, [], Some, None, IsSome, IfOk, IsTrue, string_bytes};
 ghost use Rattle.xf_journal.specs.Entry.{is_within};
-ghost use Rattle.xf_form_machine.specs.Replies.{answers_in};
-ghost use Rattle.xf_form_machine.specs.Step.{step};
-ghost use Rattle.xf_processor.specs.Formed.{profile};
+ghost use Rattle.xf_def_machine.specs.Replies.{answers_in};
+ghost use Rattle.xf_def_machine.specs.Step.{step};
+ghost use Rattle.xf_def_form.specs.Formed.{profile};
 ghost use Rattle.xf_session.specs.Processing.{Posts, Starts, kept_after};
 
 use crate::EventFault;
@@ -16,7 +16,7 @@ pub trait Processor: Drop {
     ghost use Rattle.std.specs.Prelude.{List};
     ghost use Rattle.std.specs.declared.option.Option.{Option};
     ghost use Rattle.xf_store.specs.declared.call.StoreCall.{StoreCall};
-    ghost use Rattle.xf_form_machine.specs.State.{State};
+    ghost use Rattle.xf_def_machine.specs.State.{State};
 
     /// The state of the form machine: while an event is pending, as it stands once that is kept.
     ghost state: { Self → State };
@@ -60,7 +60,7 @@ pub trait Processor: Drop {
 
 /// A form that is constructed, and who runs it once it is started.
 pub trait Starting<P: Processor>: Drop {
-    ghost use Rattle.xf_form_machine.specs.State.{State};
+    ghost use Rattle.xf_def_machine.specs.State.{State};
 
     /// The state that construction left.
     ghost first: { Self → State };

@@ -5,10 +5,10 @@ ghost use Rattle.xf_store.specs.Replies.{is_short};
 ghost use Rattle.xf_journal.specs.Entry.{are_within};
 ghost use Rattle.xf_journal.specs.Held.{Log};
 ghost use Rattle.xf_journal.specs.Scanned.{scanned_of};
-ghost use Rattle.xf_form_machine.specs.Construct.{construct};
-ghost use Rattle.xf_form_machine.specs.Program.{Program};
-ghost use Rattle.xf_form_machine.specs.Replies.{answers_in};
-ghost use Rattle.xf_processor.specs.Formed.{profile};
+ghost use Rattle.xf_def_machine.specs.Construct.{construct};
+ghost use Rattle.xf_def_machine.specs.Program.{Program};
+ghost use Rattle.xf_def_machine.specs.Replies.{answers_in};
+ghost use Rattle.xf_def_form.specs.Formed.{profile};
 ghost use Rattle.xf_session.specs.Opening.{opening_from, start_with};
 ghost use Rattle.xf_session.specs.Replaying.{IsOfReading, Reopens, taken_bytes, where_same};
 

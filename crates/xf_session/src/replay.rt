@@ -3,12 +3,12 @@ ghost use Rattle.std.specs.Prelude.{◌≡◌, ◌≤◌, None, Some, true, fals
 ghost use Rattle.std.specs.List.{list_all};
 ghost use Rattle.xf_store.specs.Replies.{is_short};
 ghost use Rattle.xf_journal.specs.Entry.{is_within, are_within};
-ghost use Rattle.xf_form_machine.specs.Replies.{answers_in};
-ghost use Rattle.xf_form_machine.specs.Run.{if_exact};
-ghost use Rattle.xf_form_machine.specs.Step.{step};
-ghost use Rattle.xf_processor.specs.Formed.{profile};
-ghost use Rattle.xf_history.specs.Images.{item_of};
-ghost use Rattle.xf_history.specs.Opening.{state_after};
+ghost use Rattle.xf_def_machine.specs.Replies.{answers_in};
+ghost use Rattle.xf_def_machine.specs.Run.{if_exact};
+ghost use Rattle.xf_def_machine.specs.Step.{step};
+ghost use Rattle.xf_def_form.specs.Formed.{profile};
+ghost use Rattle.xf_def_sessions.specs.Images.{item_of};
+ghost use Rattle.xf_def_sessions.specs.Opening.{state_after};
 ghost use Rattle.xf_session.specs.Replaying.{same_answers, played};
 
 use crate::answers::{are_same, copy_of};

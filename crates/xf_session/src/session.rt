@@ -4,9 +4,9 @@ ghost use Rattle.xf_base.specs.Limits.{line_limit};
 ghost use Rattle.xf_disk.specs.Crash.{LeavesOnly};
 ghost use Rattle.xf_journal.specs.Held.{Log};
 ghost use Rattle.xf_journal.specs.Scanned.{IsAtRest, HoldsEither, with_accepted};
-ghost use Rattle.xf_form_machine.specs.Replies.{answers_in};
-ghost use Rattle.xf_form_machine.specs.Step.{step};
-ghost use Rattle.xf_processor.specs.Formed.{profile};
+ghost use Rattle.xf_def_machine.specs.Replies.{answers_in};
+ghost use Rattle.xf_def_machine.specs.Step.{step};
+ghost use Rattle.xf_def_form.specs.Formed.{profile};
 ghost use Rattle.xf_session.specs.Keeping.{IsAtDisk};
 ghost use Rattle.xf_session.specs.Posting.{PostsIn, HasPostCause, IsKept, used_limit};
 

@@ -6,14 +6,14 @@ use Rattle.std.specs.Str.{is_utf8}
 use Rattle.std.proofs.lemmas.Bool.{and_parts}
 use Rattle.std.proofs.lemmas.List.Sums.{sum_by-cons}
 use Rattle.xf_name.specs.declared.qname.QName.{QName}
-use Rattle.xf_doc.specs.declared.bare.Bare.{Bare}
-use Rattle.xf_doc.specs.declared.bare.Bare.TheVariants as bare
-use Rattle.xf_doc.specs.declared.bare.Bare.TheOpen.{Bare-F, BareElement-F}
-use Rattle.xf_doc.specs.declared.bare.Bare.TheFolds.{map-Bare, ind-Bare}
-use Rattle.xf_doc.specs.declared.bare.Bare.TheViews.{roll-Bare, roll-BareElement}
-use Rattle.xf_doc.specs.declared.bare.BareElement.{BareElement}
-use Rattle.xf_doc.specs.declared.bare.BareAttribute.{BareAttribute}
-use Rattle.xf_doc.specs.Limits.{limits}
+use Rattle.xf_def_forest.specs.declared.bare.Bare.{Bare}
+use Rattle.xf_def_forest.specs.declared.bare.Bare.TheVariants as bare
+use Rattle.xf_def_forest.specs.declared.bare.Bare.TheOpen.{Bare-F, BareElement-F}
+use Rattle.xf_def_forest.specs.declared.bare.Bare.TheFolds.{map-Bare, ind-Bare}
+use Rattle.xf_def_forest.specs.declared.bare.Bare.TheViews.{roll-Bare, roll-BareElement}
+use Rattle.xf_def_forest.specs.declared.bare.BareElement.{BareElement}
+use Rattle.xf_def_forest.specs.declared.bare.BareAttribute.{BareAttribute}
+use Rattle.xf_def_forest.specs.Limits.{limits}
 use Rattle.xf_snap.specs.Numbers.{two, four, from_two, from_four}
 use Rattle.xf_snap.specs.Spelling.{text_bytes, name_bytes, attribute_bytes, tree_bytes, element_bytes}
 use Rattle.xf_snap.specs.Within.{is_fit_name, is_fit_attribute, is_fit, is_fit_part, is_typed_name, is_typed_attribute, is_typed, is_typed_part, tree_nodes, element_nodes}

@@ -7,8 +7,8 @@ use Rattle.std.proofs.lemmas.Bool.{leb-true, le-leb, and_parts, and_from}
 use Rattle.std.proofs.lemmas.List.{take_at, drop_at, take_rest}
 use Rattle.xf_base.specs.Limits.{part_limit}
 use Rattle.xf_name.specs.declared.qname.QName.{QName}
-use Rattle.xf_doc.specs.declared.bare.BareAttribute.{BareAttribute}
-use Rattle.xf_doc.specs.Limits.{limits}
+use Rattle.xf_def_forest.specs.declared.bare.BareAttribute.{BareAttribute}
+use Rattle.xf_def_forest.specs.Limits.{limits}
 use Rattle.xf_snap.specs.Numbers.{two, four, from_two, from_four}
 use Rattle.xf_snap.specs.Spelling.{text_bytes, name_bytes, attribute_bytes}
 use Rattle.xf_snap.specs.Within.{is_fit_name, is_fit_attribute, is_typed_name, is_typed_attribute}

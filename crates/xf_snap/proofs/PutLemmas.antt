@@ -5,9 +5,9 @@ use Rattle.std.specs.List.{flat_map, list_all, AllByRecursion}
 use Rattle.std.proofs.lemmas.Bool.{leb-true, and_parts, and_from}
 use Rattle.std.proofs.lemmas.List.Elements.{All-from_recursion}
 use Rattle.std.proofs.lemmas.List.Sums.{sum_by-cons}
-use Rattle.xf_doc.specs.declared.bare.Bare.{Bare}
-use Rattle.xf_doc.specs.declared.bare.BareElement.{BareElement}
-use Rattle.xf_doc.specs.declared.bare.BareAttribute.{BareAttribute}
+use Rattle.xf_def_forest.specs.declared.bare.Bare.{Bare}
+use Rattle.xf_def_forest.specs.declared.bare.BareElement.{BareElement}
+use Rattle.xf_def_forest.specs.declared.bare.BareAttribute.{BareAttribute}
 use Rattle.xf_snap.specs.Within.{is_fit_name, is_fit_attribute, is_fit, is_fit_part, tree_nodes, element_nodes}
 use Rattle.xf_snap.proofs.SeveralLemmas.{all_each, each_in, each_within}
 use Rattle.xf_snap.proofs.TreeLemmas.{fit-out, nodes-out}

@@ -4,13 +4,13 @@ use Rattle.std.specs.Prelude.{sum_by}
 use Rattle.std.specs.List.{flat_map}
 use Rattle.std.proofs.lemmas.List.Sums.{sum_by-cons}
 use Rattle.xf_name.specs.declared.qname.QName.{QName}
-use Rattle.xf_doc.specs.declared.bare.Bare.{Bare}
-use Rattle.xf_doc.specs.declared.bare.Bare.TheVariants as bare
-use Rattle.xf_doc.specs.declared.bare.Bare.TheOpen.{Bare-F, BareElement-F}
-use Rattle.xf_doc.specs.declared.bare.Bare.TheFolds.{map-Bare, ind-Bare}
-use Rattle.xf_doc.specs.declared.bare.Bare.TheViews.{roll-Bare, roll-BareElement}
-use Rattle.xf_doc.specs.declared.bare.BareElement.{BareElement}
-use Rattle.xf_doc.specs.declared.bare.BareAttribute.{BareAttribute}
+use Rattle.xf_def_forest.specs.declared.bare.Bare.{Bare}
+use Rattle.xf_def_forest.specs.declared.bare.Bare.TheVariants as bare
+use Rattle.xf_def_forest.specs.declared.bare.Bare.TheOpen.{Bare-F, BareElement-F}
+use Rattle.xf_def_forest.specs.declared.bare.Bare.TheFolds.{map-Bare, ind-Bare}
+use Rattle.xf_def_forest.specs.declared.bare.Bare.TheViews.{roll-Bare, roll-BareElement}
+use Rattle.xf_def_forest.specs.declared.bare.BareElement.{BareElement}
+use Rattle.xf_def_forest.specs.declared.bare.BareAttribute.{BareAttribute}
 use Rattle.xf_snap.specs.declared.snap.Snap.{Snap}
 use Rattle.xf_snap.specs.Numbers.{two, four, eight}
 use Rattle.xf_snap.specs.Spelling.{text_bytes, name_bytes, attribute_bytes, tree_bytes, element_bytes, bytes_of}

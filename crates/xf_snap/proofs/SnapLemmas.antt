@@ -4,8 +4,8 @@ use Rattle.std.specs.Prelude.{Bool, true, ◌&&◌, nat_le, nat_lt, sum_by, Resu
 use Rattle.std.specs.List.{flat_map, list_all, AllByRecursion}
 use Rattle.std.proofs.lemmas.Bool.{leb-true, le-leb, and_parts, and_from}
 use Rattle.std.proofs.lemmas.List.{append-nil}
-use Rattle.xf_doc.specs.declared.bare.Bare.{Bare}
-use Rattle.xf_doc.specs.Limits.{limits}
+use Rattle.xf_def_forest.specs.declared.bare.Bare.{Bare}
+use Rattle.xf_def_forest.specs.Limits.{limits}
 use Rattle.xf_snap.specs.declared.snap.Snap.{Snap}
 use Rattle.xf_snap.specs.Numbers.{two, four, eight, from_two, from_four, from_eight}
 use Rattle.xf_snap.specs.Spelling.{tree_bytes, bytes_of}

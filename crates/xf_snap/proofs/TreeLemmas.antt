@@ -3,13 +3,13 @@ use Rattle.std.proofs.Common.{◌≡◌, ℕ, suc, ◌+◌, ◌-◌, List, [], �
 use Rattle.std.specs.Prelude.{Bool, true, ◌&&◌, nat_le, nat_lt, sum, sum_by}
 use Rattle.std.specs.List.{flat_map, list_all}
 use Rattle.std.specs.Str.{is_utf8}
-use Rattle.xf_doc.specs.declared.bare.Bare.{Bare}
-use Rattle.xf_doc.specs.declared.bare.Bare.TheVariants as bare
-use Rattle.xf_doc.specs.declared.bare.Bare.TheOpen.{Bare-F, BareElement-F}
-use Rattle.xf_doc.specs.declared.bare.Bare.TheFolds.{fold-roll-Bare, fold-roll-BareElement, fold_out-BareElement}
-use Rattle.xf_doc.specs.declared.bare.Bare.TheViews.{roll-BareElement}
-use Rattle.xf_doc.specs.declared.bare.BareElement.{BareElement}
-use Rattle.xf_doc.specs.Limits.{limits}
+use Rattle.xf_def_forest.specs.declared.bare.Bare.{Bare}
+use Rattle.xf_def_forest.specs.declared.bare.Bare.TheVariants as bare
+use Rattle.xf_def_forest.specs.declared.bare.Bare.TheOpen.{Bare-F, BareElement-F}
+use Rattle.xf_def_forest.specs.declared.bare.Bare.TheFolds.{fold-roll-Bare, fold-roll-BareElement, fold_out-BareElement}
+use Rattle.xf_def_forest.specs.declared.bare.Bare.TheViews.{roll-BareElement}
+use Rattle.xf_def_forest.specs.declared.bare.BareElement.{BareElement}
+use Rattle.xf_def_forest.specs.Limits.{limits}
 use Rattle.xf_snap.specs.Numbers.{two, four}
 use Rattle.xf_snap.specs.Spelling.{text_bytes, name_bytes, attribute_bytes, tree_level, element_level, tree_bytes, element_bytes}
 use Rattle.xf_snap.specs.Within.{is_fit_name, is_fit_attribute, fit_level, fit_element, is_fit, is_fit_part, is_typed_name, is_typed_attribute, typed_level, typed_element, is_typed, is_typed_part, node_level, node_element, tree_nodes, element_nodes, attribute_size, size_level, size_element, tree_size, element_size}

@@ -3,11 +3,11 @@ use Rattle.std.specs.Prelude.{ℕ, zero, suc, ◌+◌, ◌^◌, Bool, true, fals
 use Rattle.std.specs.List.{list_all}
 use Rattle.std.specs.Str.{is_utf8}
 use Rattle.xf_name.specs.declared.qname.QName.{QName}
-use Rattle.xf_doc.specs.declared.bare.Bare.{Bare}
-use Rattle.xf_doc.specs.declared.bare.Bare.TheVariants as bare
-use Rattle.xf_doc.specs.declared.bare.BareElement.{BareElement, roll-BareElement}
-use Rattle.xf_doc.specs.declared.bare.BareAttribute.{BareAttribute}
-use Rattle.xf_doc.specs.Limits.{limits}
+use Rattle.xf_def_forest.specs.declared.bare.Bare.{Bare}
+use Rattle.xf_def_forest.specs.declared.bare.Bare.TheVariants as bare
+use Rattle.xf_def_forest.specs.declared.bare.BareElement.{BareElement, roll-BareElement}
+use Rattle.xf_def_forest.specs.declared.bare.BareAttribute.{BareAttribute}
+use Rattle.xf_def_forest.specs.Limits.{limits}
 use Rattle.xf_snap.specs.declared.snap.Snap.{Snap}
 use Rattle.xf_snap.specs.Numbers.{from_two, from_four, from_eight}
 use Rattle.xf_snap.specs.Within.{is_element, tree_nodes, tree_size}

@@ -2,10 +2,10 @@
 use Rattle.std.specs.Prelude.{ℕ, List, [], ◌∷◌, ◌++◌, length}
 use Rattle.std.specs.List.{flat_map}
 use Rattle.xf_name.specs.declared.qname.QName.{QName}
-use Rattle.xf_doc.specs.declared.bare.Bare.{Bare, fold-Bare}
-use Rattle.xf_doc.specs.declared.bare.Bare.TheOpen.{Bare-F, BareElement-F}
-use Rattle.xf_doc.specs.declared.bare.BareElement.{BareElement, fold-BareElement}
-use Rattle.xf_doc.specs.declared.bare.BareAttribute.{BareAttribute}
+use Rattle.xf_def_forest.specs.declared.bare.Bare.{Bare, fold-Bare}
+use Rattle.xf_def_forest.specs.declared.bare.Bare.TheOpen.{Bare-F, BareElement-F}
+use Rattle.xf_def_forest.specs.declared.bare.BareElement.{BareElement, fold-BareElement}
+use Rattle.xf_def_forest.specs.declared.bare.BareAttribute.{BareAttribute}
 use Rattle.xf_snap.specs.declared.snap.Snap.{Snap}
 use Rattle.xf_snap.specs.Numbers.{two, four, eight}
 

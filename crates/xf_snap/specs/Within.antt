@@ -4,11 +4,11 @@ use Rattle.std.specs.List.{list_all}
 use Rattle.std.specs.Str.{is_utf8}
 use Rattle.xf_base.specs.Limits.{part_limit}
 use Rattle.xf_name.specs.declared.qname.QName.{QName}
-use Rattle.xf_doc.specs.declared.bare.Bare.{Bare, fold-Bare}
-use Rattle.xf_doc.specs.declared.bare.Bare.TheOpen.{Bare-F, BareElement-F}
-use Rattle.xf_doc.specs.declared.bare.BareElement.{BareElement, fold-BareElement}
-use Rattle.xf_doc.specs.declared.bare.BareAttribute.{BareAttribute}
-use Rattle.xf_doc.specs.Limits.{limits}
+use Rattle.xf_def_forest.specs.declared.bare.Bare.{Bare, fold-Bare}
+use Rattle.xf_def_forest.specs.declared.bare.Bare.TheOpen.{Bare-F, BareElement-F}
+use Rattle.xf_def_forest.specs.declared.bare.BareElement.{BareElement, fold-BareElement}
+use Rattle.xf_def_forest.specs.declared.bare.BareAttribute.{BareAttribute}
+use Rattle.xf_def_forest.specs.Limits.{limits}
 use Rattle.xf_snap.specs.declared.snap.Snap.{Snap}
 
 -- ---- how deep a tree may be, and how long its texts and local names

@@ -6,7 +6,7 @@ ghost use Rattle.xf_snap.specs.Reading.{keeps_limits};
 
 use crate::Snap;
 use xf_base::limits::{ALL_LIMIT, NODE_LIMIT};
-use xf_doc::{Bare, BareAttribute, BareElement};
+use xf_def_forest::{Bare, BareAttribute, BareElement};
 
 /// Whether a snapshot that was read is within the limits as a whole.
 pub(crate) fn keeps_limits(snap: &Snap) -> bool

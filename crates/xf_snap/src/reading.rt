@@ -1,7 +1,7 @@
 //! Reading a snapshot.
 ghost use Rattle.std.specs.Prelude.{◌≡◌, Some, IfOk, IfSome};
 ghost use Rattle.std.specs.Option.{option_map};
-ghost use Rattle.xf_doc.specs.Limits.{limits};
+ghost use Rattle.xf_def_forest.specs.Limits.{limits};
 ghost use Rattle.xf_snap.specs.declared.snap.Snap.{Snap};
 ghost use Rattle.xf_snap.specs.Spelling.{bytes_of};
 ghost use Rattle.xf_snap.specs.Within.{IsWithin, IsTyped};
@@ -14,7 +14,7 @@ use std::alloc::{AllocError, Global};
 use std::str;
 use xf_base::Items;
 use xf_base::limits::{DEPTH_LIMIT, TEXT_LIMIT};
-use xf_doc::{Bare, BareAttribute, BareAttributeList, BareElement, BareList};
+use xf_def_forest::{Bare, BareAttribute, BareAttributeList, BareElement, BareList};
 use xf_name::{QName, Word};
 
 /// What stands at the front of some bytes, with the bytes behind it, or `None` where they begin with no such thing.

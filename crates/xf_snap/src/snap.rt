@@ -1,7 +1,7 @@
 //! What of a session is kept.
 
 use xf_base::Items;
-use xf_doc::BareList;
+use xf_def_forest::BareList;
 
 /// Numbers, which contracts see as the list of them.
 pub type CountList = Items<u32>;

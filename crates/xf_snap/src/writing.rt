@@ -12,7 +12,7 @@ use crate::number::{eight, four, two};
 use crate::{CountList, Snap};
 use std::alloc::{AllocError, Global};
 use xf_base::limits::DEPTH_LIMIT;
-use xf_doc::{Bare, BareAttribute, BareElement};
+use xf_def_forest::{Bare, BareAttribute, BareElement};
 use xf_io::Bytes;
 use xf_name::{QName, Word};
 

@@ -3,20 +3,20 @@ use Rattle.std.proofs.Common.{◌≡◌, ℕ, ◌==◌, Bool, true, false, not, 
 use Rattle.std.specs.Prelude.{filter, is_some}
 use Rattle.std.specs.List.{flat_map, list_any}
 use Rattle.xf_name.specs.declared.axis.Axis.TheVariants.{Attribute, DescendantOrSelf}
-use Rattle.xf_doc.specs.declared.content.Content.{Content}
-use Rattle.xf_doc.specs.declared.content.Content.TheVariants as content
-use Rattle.xf_doc.specs.Forest.{Forest, is_attribute, is_text, has_number, content_at}
-use Rattle.xf_doc.specs.Visit.{Visit, visits, has, is_first, above_in, ancestors_of}
-use Rattle.xf_doc.specs.Axis.{is_on, axis_from, axis_of}
-use Rattle.xf_doc.specs.Order.{in_order}
-use Rattle.xf_doc.specs.Shape.{erased, without_text}
-use Rattle.xf_doc.specs.WellFormed.{HasTrees}
-use Rattle.xf_lang.specs.Asked.{found, has_list}
-use Rattle.xf_lang.specs.Agree.{numbers_of, AreVisits}
-use Rattle.xf_lang.proofs.VisitFacts.{turned, no, none-some, found-number, has-found, found-filter, kept_if}
-use Rattle.xf_lang.proofs.ForestVisits.{Each, each-filter, each-map, self-found, found-erased, forest-visits}
-use Rattle.xf_paths.proofs.VisitLemmas.{apart, live-content, seen}
-use Rattle.xf_paths.proofs.StemLemmas.{above-parent}
+use Rattle.xf_def_forest.specs.declared.content.Content.{Content}
+use Rattle.xf_def_forest.specs.declared.content.Content.TheVariants as content
+use Rattle.xf_def_forest.specs.Forest.{Forest, is_attribute, is_text, has_number, content_at}
+use Rattle.xf_def_forest.specs.Visit.{Visit, visits, has, is_first, above_in, ancestors_of}
+use Rattle.xf_def_forest.specs.Axis.{is_on, axis_from, axis_of}
+use Rattle.xf_def_forest.specs.Order.{in_order}
+use Rattle.xf_def_forest.specs.Shape.{erased, without_text}
+use Rattle.xf_def_forest.specs.WellFormed.{HasTrees}
+use Rattle.xf_def_xpath.specs.Asked.{found, has_list}
+use Rattle.xf_def_xpath.specs.Agree.{numbers_of, AreVisits}
+use Rattle.xf_def_xpath.proofs.VisitFacts.{turned, no, none-some, found-number, has-found, found-filter, kept_if}
+use Rattle.xf_def_xpath.proofs.ForestVisits.{Each, each-filter, each-map, self-found, found-erased, forest-visits}
+use Rattle.xf_tree_paths.proofs.VisitLemmas.{apart, live-content, seen}
+use Rattle.xf_tree_paths.proofs.StemLemmas.{above-parent}
 use Rattle.xf_submit.specs.Selecting.{with_attributes}
 
 -- the node and all below it

@@ -1,8 +1,8 @@
 -- What is left of an element.
 use Rattle.std.proofs.Common.{◌≡◌, ℕ, Bool, true, false, not, cond, List, Option, Some, ap, ◌∙◌}
 use Rattle.std.specs.Prelude.{find}
-use Rattle.xf_doc.specs.Visit.{Visit}
-use Rattle.xf_model.specs.Submitted.{kept_below, left, no_data, sent_from, unless_invalid, validated}
+use Rattle.xf_def_forest.specs.Visit.{Visit}
+use Rattle.xf_def_model.specs.Submitted.{kept_below, left, no_data, sent_from, unless_invalid, validated}
 
 module _ (is_left is_valid : ℕ → Bool) (all : List Visit) (n : ℕ) where
   pub sent-none : (is_validated : Bool) → is_left n ≡ false → sent_from is_validated is_left is_valid all (Some n) ≡ no_data

@@ -11,36 +11,36 @@ use Rattle.xf_store.specs.declared.answers.Answer.TheVariants as answer
 use Rattle.xf_store.specs.declared.call.Asked.{Asked}
 use Rattle.xf_store.specs.declared.call.StoreCall.{StoreCall}
 use Rattle.xf_store.specs.Replay.{answer_at, fits}
-use Rattle.xf_ast.specs.declared.expr.Expr.{Expr}
-use Rattle.xf_ast.specs.declared.form.Method.{Method}
-use Rattle.xf_ast.specs.declared.form.Method.TheVariants as method
-use Rattle.xf_ast.specs.declared.form.Replace.{Replace}
-use Rattle.xf_ast.specs.declared.form.Replace.TheVariants as instead
-use Rattle.xf_ast.specs.declared.form.Submission.{Submission}
-use Rattle.xf_doc.specs.Changes.{root_of}
-use Rattle.xf_doc.specs.Forest.{Forest}
-use Rattle.xf_doc.specs.Planted.{lit_fault}
-use Rattle.xf_doc.specs.Visit.{visits}
+use Rattle.xf_def_syntax.specs.declared.expr.Expr.{Expr}
+use Rattle.xf_def_syntax.specs.declared.form.Method.{Method}
+use Rattle.xf_def_syntax.specs.declared.form.Method.TheVariants as method
+use Rattle.xf_def_syntax.specs.declared.form.Replace.{Replace}
+use Rattle.xf_def_syntax.specs.declared.form.Replace.TheVariants as instead
+use Rattle.xf_def_syntax.specs.declared.form.Submission.{Submission}
+use Rattle.xf_def_forest.specs.Changes.{root_of}
+use Rattle.xf_def_forest.specs.Forest.{Forest}
+use Rattle.xf_def_forest.specs.Planted.{lit_fault}
+use Rattle.xf_def_forest.specs.Visit.{visits}
 use Rattle.xf_funcs.specs.Called.{called}
-use Rattle.xf_lang.specs.Given.{Given}
-use Rattle.xf_lang.specs.Reads.{trace}
-use Rattle.xf_model.specs.Rules.{Rule, Scope}
-use Rattle.xf_model.specs.Submitted.{Submitted, by_expression, invalid, left, no_data, submitted}
-use Rattle.xf_plain_values.specs.Functions.{Functions}
-use Rattle.xf_ui.specs.declared.marks.Marks.{Marks}
-use Rattle.xf_form_machine.specs.Exchange as machine
-use Rattle.xf_form_machine.specs.Exchange.{unless_many}
-use Rattle.xf_form_machine.specs.Flow.{◌>>=◌}
-use Rattle.xf_form_machine.specs.Profile.{Profile}
-use Rattle.xf_form_machine.specs.Properties.{marks_in, relevant_in, valid_in}
-use Rattle.xf_form_machine.specs.Refusal.{Refused, or_long}
-use Rattle.xf_form_machine.specs.State.{State}
-use Rattle.xf_form_machine.specs.Submit as ends
-use Rattle.xf_form_machine.specs.Surround.{document_at, document_under, given, instance_holding, scope}
+use Rattle.xf_def_xpath.specs.Given.{Given}
+use Rattle.xf_def_xpath.specs.Reads.{trace}
+use Rattle.xf_def_model.specs.Rules.{Rule, Scope}
+use Rattle.xf_def_model.specs.Submitted.{Submitted, by_expression, invalid, left, no_data, submitted}
+use Rattle.xf_def_values.specs.Functions.{Functions}
+use Rattle.xf_def_ui.specs.declared.marks.Marks.{Marks}
+use Rattle.xf_def_machine.specs.Exchange as machine
+use Rattle.xf_def_machine.specs.Exchange.{unless_many}
+use Rattle.xf_def_machine.specs.Flow.{◌>>=◌}
+use Rattle.xf_def_machine.specs.Profile.{Profile}
+use Rattle.xf_def_machine.specs.Properties.{marks_in, relevant_in, valid_in}
+use Rattle.xf_def_machine.specs.Refusal.{Refused, or_long}
+use Rattle.xf_def_machine.specs.State.{State}
+use Rattle.xf_def_machine.specs.Submit as ends
+use Rattle.xf_def_machine.specs.Surround.{document_at, document_under, given, instance_holding, scope}
 use Rattle.xf_actions.specs.Sent as sent
-use Rattle.xf_context.specs.declared.over.Over.{Over}
-use Rattle.xf_context.specs.Around.{document_below}
-use Rattle.xf_context.specs.Over.{around_over}
+use Rattle.xf_eval_context.specs.declared.over.Over.{Over}
+use Rattle.xf_eval_context.specs.Around.{document_below}
+use Rattle.xf_eval_context.specs.Over.{around_over}
 use Rattle.xf_submit.specs.Calling.{call_of}
 use Rattle.xf_submit.specs.Requesting.{asked_by, asks, request_of}
 use Rattle.xf_submit.specs.Requesting as requesting

@@ -4,29 +4,29 @@ use Rattle.std.specs.Prelude.{filter, option_and_then}
 use Rattle.std.specs.List.{list_any}
 use Rattle.std.proofs.lemmas.Bool.Decides.{nat_tests}
 use Rattle.std.proofs.lemmas.List.{at_drop_more, at_drop_all}
-use Rattle.xf_doc.specs.declared.content.Content.{Content}
-use Rattle.xf_doc.specs.declared.content.Content.TheVariants as content
-use Rattle.xf_doc.specs.declared.content.Kind.{Kind}
-use Rattle.xf_doc.specs.declared.content.Kind.TheVariants as kind
-use Rattle.xf_doc.specs.declared.content.Node.{Node}
-use Rattle.xf_doc.specs.declared.node.NodeId.{NodeId}
-use Rattle.xf_doc.specs.Changes.{root_of}
-use Rattle.xf_doc.specs.Forest.{Forest, content_at, has_number, is_element, is_root, kind_at, kind_of, node_at}
-use Rattle.xf_doc.specs.Order.{instance_of}
-use Rattle.xf_doc.specs.Shape.{has_elements}
-use Rattle.xf_doc.specs.Visit.{Visit, above_in, children_of, first_of, is_first, last_of, still_above, top_of, visit, visits, visits_from}
-use Rattle.xf_doc.specs.WellFormed.{are_apart}
-use Rattle.xf_doc.proofs.BackLaws.{and-true, not-true, or-false}
-use Rattle.xf_doc.proofs.LiveLaws.{parent-live}
-use Rattle.xf_lang.specs.Asked.{found}
-use Rattle.xf_lang.proofs.ForestVisits.{Each, self-found}
-use Rattle.xf_lang.proofs.VisitFacts.{found-number, no, none-some, some-same}
-use Rattle.xf_paths.proofs.VisitLemmas.{apart, content-seen}
+use Rattle.xf_def_forest.specs.declared.content.Content.{Content}
+use Rattle.xf_def_forest.specs.declared.content.Content.TheVariants as content
+use Rattle.xf_def_forest.specs.declared.content.Kind.{Kind}
+use Rattle.xf_def_forest.specs.declared.content.Kind.TheVariants as kind
+use Rattle.xf_def_forest.specs.declared.content.Node.{Node}
+use Rattle.xf_def_forest.specs.declared.node.NodeId.{NodeId}
+use Rattle.xf_def_forest.specs.Changes.{root_of}
+use Rattle.xf_def_forest.specs.Forest.{Forest, content_at, has_number, is_element, is_root, kind_at, kind_of, node_at}
+use Rattle.xf_def_forest.specs.Order.{instance_of}
+use Rattle.xf_def_forest.specs.Shape.{has_elements}
+use Rattle.xf_def_forest.specs.Visit.{Visit, above_in, children_of, first_of, is_first, last_of, still_above, top_of, visit, visits, visits_from}
+use Rattle.xf_def_forest.specs.WellFormed.{are_apart}
+use Rattle.xf_def_forest.proofs.BackLaws.{and-true, not-true, or-false}
+use Rattle.xf_def_forest.proofs.LiveLaws.{parent-live}
+use Rattle.xf_def_xpath.specs.Asked.{found}
+use Rattle.xf_def_xpath.proofs.ForestVisits.{Each, self-found}
+use Rattle.xf_def_xpath.proofs.VisitFacts.{found-number, no, none-some, some-same}
+use Rattle.xf_tree_paths.proofs.VisitLemmas.{apart, content-seen}
 use Rattle.xf_eval.proofs.Lists.{append-none}
-use Rattle.xf_model.specs.Submitted.{element_in, element_of}
-use Rattle.xf_shape.specs.Sound.{Sound}
-use Rattle.xf_shape.specs.Spots.{is_element_in}
-use Rattle.xf_context.specs.Around.{document_below}
+use Rattle.xf_def_model.specs.Submitted.{element_in, element_of}
+use Rattle.xf_eval_shape.specs.Sound.{Sound}
+use Rattle.xf_eval_shape.specs.Spots.{is_element_in}
+use Rattle.xf_eval_context.specs.Around.{document_below}
 use Rattle.xf_submit.specs.Targets.{document_at, document_of}
 
 -- ---- elements

@@ -1,25 +1,25 @@
 -- What a submission selects, by the calls that evaluate bindings.
 use Rattle.std.proofs.Common.{◌≡◌, ◌<◌, ◌≤◌, ℕ, zero, suc, List, [], ◌∷◌, ◌++◌, map, length, Option, Some, None, option_map, slice_get, refl, sym, ap, ◌∙◌, arith}
 use Rattle.xf_base.specs.Limits.{string_limit}
-use Rattle.xf_ast.specs.declared.expr.Expr.{Expr}
-use Rattle.xf_ast.specs.declared.form.Bind.{Bind}
-use Rattle.xf_doc.specs.Visit.{Visit, first_of, visits}
-use Rattle.xf_lang.specs.declared.value.Value.{Value}
-use Rattle.xf_lang.specs.Binding.{as_list, first_bound}
-use Rattle.xf_lang.specs.Conversions.{nodes_of}
-use Rattle.xf_lang.specs.Given.{first_document}
-use Rattle.xf_lang.specs.Meaning.{meaning}
-use Rattle.xf_lang.specs.Reads.{trace}
-use Rattle.xf_lang.specs.Setting.{◌>>=◌, each, joined}
-use Rattle.xf_lang.proofs.TraceKeeps.{meaning-of_trace}
-use Rattle.xf_model.specs.Nested.{alone, nested, setting_for}
-use Rattle.xf_model.specs.Rules.{Rule, for_binds, model_or, rule_of}
-use Rattle.xf_model.specs.Submitted.{by_expression, first_from, first_in}
-use Rattle.xf_ui.specs.Around as ui
-use Rattle.xf_nested.specs.Chain.{through}
-use Rattle.xf_nested.proofs.ChainLaws.{through-none}
-use Rattle.xf_context.specs.declared.over.Over.{Over}
-use Rattle.xf_context.specs.Over.{around_over}
+use Rattle.xf_def_syntax.specs.declared.expr.Expr.{Expr}
+use Rattle.xf_def_syntax.specs.declared.form.Bind.{Bind}
+use Rattle.xf_def_forest.specs.Visit.{Visit, first_of, visits}
+use Rattle.xf_def_xpath.specs.declared.value.Value.{Value}
+use Rattle.xf_def_xpath.specs.Binding.{as_list, first_bound}
+use Rattle.xf_def_xpath.specs.Conversions.{nodes_of}
+use Rattle.xf_def_xpath.specs.Given.{first_document}
+use Rattle.xf_def_xpath.specs.Meaning.{meaning}
+use Rattle.xf_def_xpath.specs.Reads.{trace}
+use Rattle.xf_def_xpath.specs.Setting.{◌>>=◌, each, joined}
+use Rattle.xf_def_xpath.proofs.TraceKeeps.{meaning-of_trace}
+use Rattle.xf_def_model.specs.Nested.{alone, nested, setting_for}
+use Rattle.xf_def_model.specs.Rules.{Rule, for_binds, model_or, rule_of}
+use Rattle.xf_def_model.specs.Submitted.{by_expression, first_from, first_in}
+use Rattle.xf_def_ui.specs.Around as ui
+use Rattle.xf_eval_context.specs.Nested.Chain.{through}
+use Rattle.xf_eval_context.proofs.NestedLemmas.ChainLaws.{through-none}
+use Rattle.xf_eval_context.specs.declared.over.Over.{Over}
+use Rattle.xf_eval_context.specs.Over.{around_over}
 use Rattle.xf_submit.specs.Selecting.{scope_over}
 
 pub first-listed : (d : Option ℕ) → first_in (as_list d) ≡ d

@@ -4,13 +4,13 @@ use Rattle.xf_name.specs.Bindings.{Bindings}
 use Rattle.xf_json.specs.Printed.{text_of}
 use Rattle.xf_store.specs.declared.call.Asked.{Asked}
 use Rattle.xf_store.specs.declared.call.Asked.TheVariants as store
-use Rattle.xf_ast.specs.declared.form.Method.{Method}
-use Rattle.xf_ast.specs.declared.form.Method.TheVariants.{Put, Post, Get}
-use Rattle.xf_ast.specs.declared.form.Submission.{Submission}
-use Rattle.xf_doc.specs.declared.content.Node.{Node}
-use Rattle.xf_doc.specs.Printed.{lit_of}
-use Rattle.xf_model.specs.Submitted.{Submitted, left, no_data, invalid}
-use Rattle.xf_form_machine.specs.Exchange.{is_store_name}
+use Rattle.xf_def_syntax.specs.declared.form.Method.{Method}
+use Rattle.xf_def_syntax.specs.declared.form.Method.TheVariants.{Put, Post, Get}
+use Rattle.xf_def_syntax.specs.declared.form.Submission.{Submission}
+use Rattle.xf_def_forest.specs.declared.content.Node.{Node}
+use Rattle.xf_def_forest.specs.Printed.{lit_of}
+use Rattle.xf_def_model.specs.Submitted.{Submitted, left, no_data, invalid}
+use Rattle.xf_def_machine.specs.Exchange.{is_store_name}
 use Rattle.xf_submit.specs.Errors.{type_text}
 use Rattle.xf_submit.specs.declared.requesting.Request.{Request}
 use Rattle.xf_submit.specs.declared.requesting.Request.TheVariants as request

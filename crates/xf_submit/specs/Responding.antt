@@ -7,10 +7,10 @@ use Rattle.xf_json.specs.declared.fault.JsonFault.{JsonFault}
 use Rattle.xf_json.specs.Element.{lit_in}
 use Rattle.xf_store.specs.declared.answers.Answer.{Answer}
 use Rattle.xf_store.specs.declared.answers.Answer.TheVariants.{PutDone, Found}
-use Rattle.xf_ast.specs.declared.form.Replace.{Replace}
-use Rattle.xf_ast.specs.declared.form.Replace.TheVariants as instead
-use Rattle.xf_ast.specs.declared.form.Submission.{Submission}
-use Rattle.xf_doc.specs.Planted.{lit_fault}
+use Rattle.xf_def_syntax.specs.declared.form.Replace.{Replace}
+use Rattle.xf_def_syntax.specs.declared.form.Replace.TheVariants as instead
+use Rattle.xf_def_syntax.specs.declared.form.Submission.{Submission}
+use Rattle.xf_def_forest.specs.Planted.{lit_fault}
 use Rattle.xf_submit.specs.Errors.{type_text}
 use Rattle.xf_submit.specs.declared.responding.Outcome.{Outcome}
 use Rattle.xf_submit.specs.declared.responding.Outcome.TheVariants as outcome

@@ -1,17 +1,17 @@
 -- What a submission selects (XForms 1.1, section 11.2), as code answers it.
 use Rattle.std.specs.Prelude.{◌≡◌, ℕ, Bool, List, ◌∷◌, Some}
 use Rattle.xf_name.specs.declared.axis.Axis.TheVariants.{Attribute}
-use Rattle.xf_doc.specs.declared.content.Node.{Node}
-use Rattle.xf_doc.specs.declared.content.Kind.TheVariants as kind
-use Rattle.xf_doc.specs.Axis.{axis_of}
-use Rattle.xf_doc.specs.Forest.{kind_at}
-use Rattle.xf_doc.specs.Visit.{visits}
+use Rattle.xf_def_forest.specs.declared.content.Node.{Node}
+use Rattle.xf_def_forest.specs.declared.content.Kind.TheVariants as kind
+use Rattle.xf_def_forest.specs.Axis.{axis_of}
+use Rattle.xf_def_forest.specs.Forest.{kind_at}
+use Rattle.xf_def_forest.specs.Visit.{visits}
 use Rattle.xf_funcs.specs.Called.{called}
-use Rattle.xf_model.specs.Rules.{Scope, scope_of}
-use Rattle.xf_model.specs.Submitted.{Submitted, left, no_data, invalid}
-use Rattle.xf_ui.specs.declared.marks.Marks.{Marks}
-use Rattle.xf_context.specs.declared.over.Over.{Over}
-use Rattle.xf_context.specs.Over.{around_over}
+use Rattle.xf_def_model.specs.Rules.{Scope, scope_of}
+use Rattle.xf_def_model.specs.Submitted.{Submitted, left, no_data, invalid}
+use Rattle.xf_def_ui.specs.declared.marks.Marks.{Marks}
+use Rattle.xf_eval_context.specs.declared.over.Over.{Over}
+use Rattle.xf_eval_context.specs.Over.{around_over}
 use Rattle.xf_submit.specs.declared.selecting.Chosen.{Chosen}
 use Rattle.xf_submit.specs.declared.selecting.Chosen.TheVariants as chosen
 

@@ -1,27 +1,27 @@
 -- The steps of a submission in a state of the machine (XForms 1.1, section 11.2), by what the calls of this crate answer.
 use Rattle.std.specs.Prelude.{ℕ, ◌≡◌, List, [], ◌∷◌, map, length, nat_le, Some, None, option_map, Result, Ok}
 use Rattle.xf_base.specs.Limits.{string_limit}
-use Rattle.xf_ast.specs.declared.form.Submission.{Submission}
-use Rattle.xf_context.specs.declared.over.Over.{Over}
-use Rattle.xf_context.specs.Over.{around_over}
+use Rattle.xf_def_syntax.specs.declared.form.Submission.{Submission}
+use Rattle.xf_eval_context.specs.declared.over.Over.{Over}
+use Rattle.xf_eval_context.specs.Over.{around_over}
 use Rattle.xf_funcs.specs.Called.{called}
-use Rattle.xf_model.specs.Rules.{rule_of}
-use Rattle.xf_model.specs.Submitted.{submitted}
+use Rattle.xf_def_model.specs.Rules.{rule_of}
+use Rattle.xf_def_model.specs.Submitted.{submitted}
 use Rattle.xf_store.specs.declared.answers.Answer.{Answer}
 use Rattle.xf_store.specs.declared.answers.Answer.TheVariants.{Failed}
 use Rattle.xf_store.specs.declared.call.Asked.{Asked}
 use Rattle.xf_store.specs.declared.call.StoreCall.{StoreCall}
 use Rattle.xf_store.specs.Replay.{answer_at, fits}
-use Rattle.xf_form_machine.specs.declared.note.Note.TheVariants as note
-use Rattle.xf_form_machine.specs.Exchange.{unless_many, with_call}
-use Rattle.xf_form_machine.specs.Flow.{◌>>=◌}
-use Rattle.xf_form_machine.specs.Primitives.{add_note}
-use Rattle.xf_form_machine.specs.Profile.{Profile}
-use Rattle.xf_form_machine.specs.Properties.{relevant_in, valid_in}
-use Rattle.xf_form_machine.specs.Refusal.{Refused, or_long}
-use Rattle.xf_form_machine.specs.State.{State}
-use Rattle.xf_form_machine.specs.Submit.{takes_text, takes_tree, target_by}
-use Rattle.xf_form_machine.specs.Surround.{given, scope}
+use Rattle.xf_def_machine.specs.declared.note.Note.TheVariants as note
+use Rattle.xf_def_machine.specs.Exchange.{unless_many, with_call}
+use Rattle.xf_def_machine.specs.Flow.{◌>>=◌}
+use Rattle.xf_def_machine.specs.Primitives.{add_note}
+use Rattle.xf_def_machine.specs.Profile.{Profile}
+use Rattle.xf_def_machine.specs.Properties.{relevant_in, valid_in}
+use Rattle.xf_def_machine.specs.Refusal.{Refused, or_long}
+use Rattle.xf_def_machine.specs.State.{State}
+use Rattle.xf_def_machine.specs.Submit.{takes_text, takes_tree, target_by}
+use Rattle.xf_def_machine.specs.Surround.{given, scope}
 use Rattle.xf_actions.specs.Sent as sent
 use Rattle.xf_actions.specs.Sent.{Sends}
 use Rattle.xf_actions.specs.Told.{untold}

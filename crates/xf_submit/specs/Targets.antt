@@ -2,18 +2,18 @@
 use Rattle.std.specs.Prelude.{ℕ, Bool, not, ◌&&◌, List, Option, Some, None, option_and_then, ◌==◌}
 use Rattle.std.specs.List.{list_any}
 use Rattle.xf_base.specs.Limits.{string_limit}
-use Rattle.xf_ast.specs.declared.expr.Expr.{Expr}
-use Rattle.xf_doc.specs.declared.content.Node.{Node}
-use Rattle.xf_doc.specs.Changes.{root_of}
-use Rattle.xf_doc.specs.Forest.{is_element}
-use Rattle.xf_doc.specs.Order.{instance_of}
-use Rattle.xf_doc.specs.Shape.{has_elements}
-use Rattle.xf_doc.specs.Visit.{top_of, visits}
-use Rattle.xf_lang.specs.Reads.{trace}
-use Rattle.xf_model.specs.Rules.{Scope}
-use Rattle.xf_model.specs.Submitted.{by_expression}
-use Rattle.xf_ui.specs.declared.marks.Marks.{Marks}
-use Rattle.xf_context.specs.Around.{document_below}
+use Rattle.xf_def_syntax.specs.declared.expr.Expr.{Expr}
+use Rattle.xf_def_forest.specs.declared.content.Node.{Node}
+use Rattle.xf_def_forest.specs.Changes.{root_of}
+use Rattle.xf_def_forest.specs.Forest.{is_element}
+use Rattle.xf_def_forest.specs.Order.{instance_of}
+use Rattle.xf_def_forest.specs.Shape.{has_elements}
+use Rattle.xf_def_forest.specs.Visit.{top_of, visits}
+use Rattle.xf_def_xpath.specs.Reads.{trace}
+use Rattle.xf_def_model.specs.Rules.{Scope}
+use Rattle.xf_def_model.specs.Submitted.{by_expression}
+use Rattle.xf_def_ui.specs.declared.marks.Marks.{Marks}
+use Rattle.xf_eval_context.specs.Around.{document_below}
 
 -- the document element of the instance at a place
 abbrev pub document_at : List Node → ℕ → Option ℕ

@@ -1,13 +1,13 @@
 //! What is asked of the store, and the bytes that are sent (XForms 1.1, sections 11.2 and 11.9).
 
 ghost use Rattle.std.specs.Prelude.{◌≡◌, IfOk};
-ghost use Rattle.xf_literal.specs.Print.{MayPrint};
+ghost use Rattle.xf_tree_literals.specs.Print.{MayPrint};
 ghost use Rattle.xf_submit.specs.Requesting.{asked_by, sent_bytes};
 
 use crate::selecting::Left;
 use std::alloc::AllocError;
-use xf_ast::{Method, Submission};
-use xf_context::Over;
+use xf_def_syntax::{Method, Submission};
+use xf_eval_context::Over;
 use xf_io::Bytes;
 use xf_json::print;
 use xf_store::Asked;

@@ -1,16 +1,16 @@
 //! What the event tells that a submission ends with (XForms 1.1, sections 11.4 and 11.5).
 
 ghost use Rattle.std.specs.Prelude.{◌≡◌, ◌++◌, ◌∷◌, [], IfOk, OnOk, option_map};
-ghost use Rattle.xf_lang.specs.declared.value.Value.TheVariants.{Text};
-ghost use Rattle.xf_ui.specs.Told.{told_of};
+ghost use Rattle.xf_def_xpath.specs.declared.value.Value.TheVariants.{Text};
+ghost use Rattle.xf_def_ui.specs.Told.{told_of};
 ghost use Rattle.xf_submit.specs.Ending.{end_told};
 
 use std::alloc::{AllocError, Global};
-use xf_ast::Submission;
 use xf_base::Items;
-use xf_lang::Value;
+use xf_def_syntax::Submission;
+use xf_def_ui::{Property, PropertyList};
+use xf_def_xpath::Value;
 use xf_name::Word;
-use xf_ui::{Property, PropertyList};
 
 /// The name in the store, and the type of the error where it failed.
 pub fn end_properties(

@@ -2,7 +2,7 @@
 
 ghost use Rattle.std.specs.Prelude.{◌≡◌};
 ghost use Rattle.std.specs.List.{list_all};
-ghost use Rattle.xf_form_machine.specs.Exchange as exchange;
+ghost use Rattle.xf_def_machine.specs.Exchange as exchange;
 
 use xf_base::limits::STORE_NAME_LIMIT;
 

@@ -2,19 +2,19 @@
 
 ghost use Rattle.std.specs.Prelude.{◌≡◌, ◌++◌, ◌||◌, ◌==◌, IfOk, OnOk, filter, map, option_map};
 ghost use Rattle.std.specs.List.{flat_map};
-ghost use Rattle.xf_doc.specs.Axis.{axis_of};
-ghost use Rattle.xf_doc.specs.Forest.{IsLive, content_at};
-ghost use Rattle.xf_doc.specs.Order.{in_order};
-ghost use Rattle.xf_doc.specs.Shape as shape;
-ghost use Rattle.xf_doc.specs.Visit.{children_of, first_of, has, visits};
-ghost use Rattle.xf_shape.specs.Spots.{is_element_in};
+ghost use Rattle.xf_def_forest.specs.Axis.{axis_of};
+ghost use Rattle.xf_def_forest.specs.Forest.{IsLive, content_at};
+ghost use Rattle.xf_def_forest.specs.Order.{in_order};
+ghost use Rattle.xf_def_forest.specs.Shape as shape;
+ghost use Rattle.xf_def_forest.specs.Visit.{children_of, first_of, has, visits};
+ghost use Rattle.xf_eval_shape.specs.Spots.{is_element_in};
 ghost use Rattle.xf_submit.specs.Selecting.{with_attributes};
 
 use std::alloc::{AllocError, Global};
-use xf_context::is_live;
-use xf_doc::{NodeId, NodeList};
+use xf_def_forest::{NodeId, NodeList};
+use xf_eval_context::is_live;
+use xf_eval_shape::is_sound;
 use xf_name::Axis;
-use xf_shape::is_sound;
 use xf_tree::{Forest, Seen};
 
 /// Whether a node stands in the forest and is an element.

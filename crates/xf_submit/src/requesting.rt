@@ -2,9 +2,9 @@
 
 ghost use Rattle.std.specs.Prelude.{◌≡◌, IfOk, Some, option_map};
 ghost use Rattle.xf_base.specs.Limits.{string_limit};
-ghost use Rattle.xf_plain_values.specs.Bounded.{GivesBounded};
-ghost use Rattle.xf_literal.specs.Print.{MayPrint};
-ghost use Rattle.xf_model.specs.Submitted.{left, submitted};
+ghost use Rattle.xf_def_values.specs.Bounded.{GivesBounded};
+ghost use Rattle.xf_tree_literals.specs.Print.{MayPrint};
+ghost use Rattle.xf_def_model.specs.Submitted.{left, submitted};
 ghost use Rattle.xf_submit.specs.Requesting.{request_of, seen_request};
 ghost use Rattle.xf_submit.specs.Selecting.{relevant_by, scope_over, valid_by};
 
@@ -13,12 +13,12 @@ use crate::error::ErrorType;
 use crate::naming::is_store_name;
 use crate::selecting::{Chosen, Left, selected};
 use std::alloc::AllocError;
-use xf_ast::Submission;
-use xf_context::Over;
-use xf_doc::NodeId;
+use xf_def_forest::NodeId;
+use xf_def_syntax::Submission;
+use xf_def_ui::NodeMarks;
 use xf_eval::EvalFault;
+use xf_eval_context::Over;
 use xf_store::Asked;
-use xf_ui::NodeMarks;
 
 /// What a submission asks for.
 #[derive(Drop)]

@@ -6,11 +6,11 @@ ghost use Rattle.xf_submit.specs.Responding.{as_text, as_tree, responded_by, res
 
 use crate::error::ErrorType;
 use std::alloc::{AllocError, Global};
-use xf_ast::{Replace, Submission};
+use xf_def_syntax::{Replace, Submission};
 use xf_json::{JsonFault, read};
-use xf_literal::lit_fault;
 use xf_name::{Lit, Prefixes, Word};
 use xf_store::Answer;
+use xf_tree_literals::lit_fault;
 
 /// What comes of a response.
 #[derive(Drop)]

@@ -2,21 +2,21 @@
 
 ghost use Rattle.std.specs.Prelude.{◌≡◌, ◌++◌, ◌∷◌, [], if◌then◌else◌, not, IfOk, OnOk, Some, filter, find, map, option_map};
 ghost use Rattle.xf_base.specs.Limits.{string_limit};
-ghost use Rattle.xf_plain_values.specs.Bounded.{GivesBounded};
-ghost use Rattle.xf_doc.specs.declared.content.Kind.TheVariants as kind;
-ghost use Rattle.xf_doc.specs.Forest.{IsLive, kind_at};
-ghost use Rattle.xf_doc.specs.Visit.{visits};
-ghost use Rattle.xf_model.specs.Submitted as model;
+ghost use Rattle.xf_def_values.specs.Bounded.{GivesBounded};
+ghost use Rattle.xf_def_forest.specs.declared.content.Kind.TheVariants as kind;
+ghost use Rattle.xf_def_forest.specs.Forest.{IsLive, kind_at};
+ghost use Rattle.xf_def_forest.specs.Visit.{visits};
+ghost use Rattle.xf_def_model.specs.Submitted as model;
 ghost use Rattle.xf_submit.specs.Selecting.{IsOfElement, relevant_by, scope_over, seen_chosen, valid_by};
 
 use crate::nodes::{is_element, nodes_below};
 use crate::sources::selected_node;
 use std::alloc::AllocError;
-use xf_ast::Submission;
-use xf_context::Over;
-use xf_doc::{NodeId, NodeList};
+use xf_def_forest::{NodeId, NodeList};
+use xf_def_syntax::Submission;
+use xf_def_ui::NodeMarks;
 use xf_eval::EvalFault;
-use xf_ui::NodeMarks;
+use xf_eval_context::Over;
 
 /// An element, and what is left of its tree.
 #[derive(Drop)]

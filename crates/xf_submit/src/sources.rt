@@ -2,23 +2,23 @@
 
 ghost use Rattle.std.specs.Prelude.{◌≡◌, IfOk, None, Some, length, nat_lt, option_map};
 ghost use Rattle.xf_base.specs.Limits.{string_limit};
-ghost use Rattle.xf_plain_values.specs.Bounded.{GivesBounded};
-ghost use Rattle.xf_doc.specs.Visit.{visits};
-ghost use Rattle.xf_lang.specs.Given.{first_document};
-ghost use Rattle.xf_lang.specs.Reads.{trace};
-ghost use Rattle.xf_model.specs.Submitted.{by_expression, first_in, selected_by};
-ghost use Rattle.xf_model.specs.Rules.{for_binds};
-ghost use Rattle.xf_model.specs.Nested as chain;
-ghost use Rattle.xf_context.specs.Over.{around_over};
+ghost use Rattle.xf_def_values.specs.Bounded.{GivesBounded};
+ghost use Rattle.xf_def_forest.specs.Visit.{visits};
+ghost use Rattle.xf_def_xpath.specs.Given.{first_document};
+ghost use Rattle.xf_def_xpath.specs.Reads.{trace};
+ghost use Rattle.xf_def_model.specs.Submitted.{by_expression, first_in, selected_by};
+ghost use Rattle.xf_def_model.specs.Rules.{for_binds};
+ghost use Rattle.xf_def_model.specs.Nested as chain;
+ghost use Rattle.xf_eval_context.specs.Over.{around_over};
 ghost use Rattle.xf_submit.specs.Selecting.{scope_over};
 
 use std::alloc::AllocError;
-use xf_ast::{Expr, Selection, Submission};
-use xf_context::{Index, Over, Surroundings, alone, document_of, documents, first_selected};
-use xf_doc::NodeId;
+use xf_def_forest::NodeId;
+use xf_def_syntax::{Expr, Selection, Submission};
+use xf_def_ui::Property;
 use xf_eval::EvalFault;
-use xf_nested::nested;
-use xf_ui::Property;
+use xf_eval_context::nested::nested;
+use xf_eval_context::{Index, Over, Surroundings, alone, document_of, documents, first_selected};
 
 /// The node that a submission selects.
 pub(crate) fn selected_node(

@@ -1,18 +1,18 @@
 //! Where the response comes (XForms 1.1, section 11.2).
 
 ghost use Rattle.std.specs.Prelude.{◌≡◌, option_map};
-ghost use Rattle.xf_plain_values.specs.Bounded.{GivesBounded};
+ghost use Rattle.xf_def_values.specs.Bounded.{GivesBounded};
 ghost use Rattle.xf_submit.specs.Selecting.{scope_over};
 ghost use Rattle.xf_submit.specs.Targets as targets;
 
 use crate::nodes::{first_child, has_elements, is_element};
 use crate::sources::first_by;
-use xf_ast::Submission;
-use xf_context::{Over, document, is_live};
-use xf_doc::{Kind, NodeId};
+use xf_def_forest::{Kind, NodeId};
+use xf_def_syntax::Submission;
+use xf_def_ui::NodeMarks;
 use xf_eval::EvalFault;
+use xf_eval_context::{Over, document, is_live};
 use xf_tree::Forest;
-use xf_ui::NodeMarks;
 
 /// The target of a submission whose selection is this node: what `targetref` selects, else the document element of the instance that is named,
 /// else that of the selection's instance.

@@ -4,23 +4,23 @@ use Rattle.std.specs.Prelude.{count_by, filter}
 use Rattle.std.proofs.lemmas.Bool.{cases_Bool}
 use Rattle.std.proofs.lemmas.List.{take-append-drop, map-append, get_or-take, get_or-drop, take-take}
 use Rattle.slab.specs.Slab.{Slab, get}
-use Rattle.xf_doc.specs.declared.content.Content.{Content}
-use Rattle.xf_doc.specs.Forest.{is_attribute, below}
-use Rattle.xf_doc.specs.Changes.{place_in, place_among, with_place, standing}
-use Rattle.xf_doc.specs.Visit.{visits, numbers, has, attributes_of, children_of, parent_of}
-use Rattle.xf_rows.specs.declared.rows.Row.{Row}
-use Rattle.xf_rows.specs.Rows.{deeper, parent_row_of, no_row, AreSteps, depths}
-use Rattle.xf_rows.proofs.CutLemmas.{deeper-length}
-use Rattle.xf_slots.specs.Slot.{Slot}
-use Rattle.xf_slots.specs.Keys.{number_in, content_in}
-use Rattle.xf_slots.proofs.AlikeLemmas.{eq-true}
-use Rattle.xf_walks.specs.Nodes.{node_of, StandsAt, times, is_kin, kin_before, number_at}
-use Rattle.xf_walks.specs.Kids.{is_kid}
-use Rattle.xf_walks.proofs.ParentLemmas.{parent-means}
-use Rattle.xf_walks.proofs.PlaceLemmas.{stands, below-is, tree-size, parted-at}
-use Rattle.xf_walks.proofs.NodeLemmas.{part, times-append}
-use Rattle.xf_walks.proofs.KidLemmas.{parted-kids, place-of_kin, has-kin, node_depths}
-use Rattle.xf_walks.proofs.AboveLemmas.{Above, above-inside, child-depth, above-is}
+use Rattle.xf_def_forest.specs.declared.content.Content.{Content}
+use Rattle.xf_def_forest.specs.Forest.{is_attribute, below}
+use Rattle.xf_def_forest.specs.Changes.{place_in, place_among, with_place, standing}
+use Rattle.xf_def_forest.specs.Visit.{visits, numbers, has, attributes_of, children_of, parent_of}
+use Rattle.xf_tree_rows.specs.declared.rows.Row.{Row}
+use Rattle.xf_tree_rows.specs.Rows.{deeper, parent_row_of, no_row, AreSteps, depths}
+use Rattle.xf_tree_rows.proofs.CutLemmas.{deeper-length}
+use Rattle.xf_tree_contents.specs.Slot.{Slot}
+use Rattle.xf_tree_contents.specs.Keys.{number_in, content_in}
+use Rattle.xf_tree_contents.proofs.AlikeLemmas.{eq-true}
+use Rattle.xf_tree_walks.specs.Nodes.{node_of, StandsAt, times, is_kin, kin_before, number_at}
+use Rattle.xf_tree_walks.specs.Kids.{is_kid}
+use Rattle.xf_tree_walks.proofs.ParentLemmas.{parent-means}
+use Rattle.xf_tree_walks.proofs.PlaceLemmas.{stands, below-is, tree-size, parted-at}
+use Rattle.xf_tree_walks.proofs.NodeLemmas.{part, times-append}
+use Rattle.xf_tree_walks.proofs.KidLemmas.{parted-kids, place-of_kin, has-kin, node_depths}
+use Rattle.xf_tree_walks.proofs.AboveLemmas.{Above, above-inside, child-depth, above-is}
 use Rattle.xf_tree.specs.State.{IsSound}
 use Rattle.xf_tree.proofs.MeansLemmas.{one_of}
 

@@ -5,34 +5,34 @@ use Rattle.std.specs.List.{list_any}
 use Rattle.std.proofs.lemmas.List.{take-append-drop, map-append, length-map}
 use Rattle.std.proofs.lemmas.Bool.Decides.{nat_tests}
 use Rattle.slab.specs.Slab.{Slab, get}
-use Rattle.xf_doc.specs.declared.content.Node.{Node}
-use Rattle.xf_doc.specs.declared.content.Content.{Content}
-use Rattle.xf_doc.specs.declared.content.Content.TheVariants.{Root, Element, Attribute, Text}
-use Rattle.xf_doc.specs.declared.content.Kind.{Kind}
-use Rattle.xf_doc.specs.declared.fault.TreeFault.TheVariants.{Nodes, AllText}
-use Rattle.xf_doc.specs.declared.content.Kind.TheVariants as kind
-use Rattle.xf_doc.specs.Forest.{is_text, is_element, kind_of, has_number}
-use Rattle.xf_doc.specs.Limits.{Limits, node_count, all_size, size_of, passed_by_all}
-use Rattle.xf_doc.specs.Plant.{numbered_from}
-use Rattle.xf_doc.specs.Texts.{KeptText, Keeping}
-use Rattle.xf_rows.specs.declared.rows.Row.{Row}
-use Rattle.xf_rows.specs.Rows.{Sized, deeper, AreSteps, depths, no_row}
-use Rattle.xf_rows.proofs.SizedLemmas.{sized-append, lt-true, lt-false}
-use Rattle.xf_rows.proofs.CutLemmas.{all-deep-zero}
-use Rattle.xf_slots.specs.Slot.{Slot}
-use Rattle.xf_slots.specs.Keys.{kept_of, number_in, content_in, kept_times}
-use Rattle.xf_slots.proofs.AlikeLemmas.{eq-true}
-use Rattle.xf_walks.specs.Leaves.{parts_in, AreLeaves}
-use Rattle.xf_walks.specs.First.{AreFirst}
-use Rattle.xf_walks.specs.Nodes.{node_of, times, AllLive, AllTops, IsTree, AllPlain, StandsAt}
-use Rattle.xf_walks.proofs.NodeLemmas.{Parted, times-append}
-use Rattle.xf_walks.proofs.CountLemmas.{nodes-append, sizes-append, sizes-cons}
-use Rattle.xf_walks.proofs.StepLemmas.{most_after, steps-append, steps-more}
-use Rattle.xf_walks.proofs.LeafLemmas.{leaves-top, parts-append, parts-numbered, steps-not_deeper}
-use Rattle.xf_walks.proofs.FirstLemmas.{first-append, first-anywhere}
-use Rattle.xf_walks.proofs.StackLemmas.{absent-parts}
-use Rattle.xf_changes.specs.Trees.{KeepsLive, size_of_all}
-use Rattle.xf_changes.proofs.PushLemmas.{kept-nodes, kept-live}
+use Rattle.xf_def_forest.specs.declared.content.Node.{Node}
+use Rattle.xf_def_forest.specs.declared.content.Content.{Content}
+use Rattle.xf_def_forest.specs.declared.content.Content.TheVariants.{Root, Element, Attribute, Text}
+use Rattle.xf_def_forest.specs.declared.content.Kind.{Kind}
+use Rattle.xf_def_forest.specs.declared.fault.TreeFault.TheVariants.{Nodes, AllText}
+use Rattle.xf_def_forest.specs.declared.content.Kind.TheVariants as kind
+use Rattle.xf_def_forest.specs.Forest.{is_text, is_element, kind_of, has_number}
+use Rattle.xf_def_forest.specs.Limits.{Limits, node_count, all_size, size_of, passed_by_all}
+use Rattle.xf_def_forest.specs.Plant.{numbered_from}
+use Rattle.xf_def_forest.specs.Texts.{KeptText, Keeping}
+use Rattle.xf_tree_rows.specs.declared.rows.Row.{Row}
+use Rattle.xf_tree_rows.specs.Rows.{Sized, deeper, AreSteps, depths, no_row}
+use Rattle.xf_tree_rows.proofs.SizedLemmas.{sized-append, lt-true, lt-false}
+use Rattle.xf_tree_rows.proofs.CutLemmas.{all-deep-zero}
+use Rattle.xf_tree_contents.specs.Slot.{Slot}
+use Rattle.xf_tree_contents.specs.Keys.{kept_of, number_in, content_in, kept_times}
+use Rattle.xf_tree_contents.proofs.AlikeLemmas.{eq-true}
+use Rattle.xf_tree_walks.specs.Leaves.{parts_in, AreLeaves}
+use Rattle.xf_tree_walks.specs.First.{AreFirst}
+use Rattle.xf_tree_walks.specs.Nodes.{node_of, times, AllLive, AllTops, IsTree, AllPlain, StandsAt}
+use Rattle.xf_tree_walks.proofs.NodeLemmas.{Parted, times-append}
+use Rattle.xf_tree_walks.proofs.CountLemmas.{nodes-append, sizes-append, sizes-cons}
+use Rattle.xf_tree_walks.proofs.StepLemmas.{most_after, steps-append, steps-more}
+use Rattle.xf_tree_walks.proofs.LeafLemmas.{leaves-top, parts-append, parts-numbered, steps-not_deeper}
+use Rattle.xf_tree_walks.proofs.FirstLemmas.{first-append, first-anywhere}
+use Rattle.xf_tree_walks.proofs.StackLemmas.{absent-parts}
+use Rattle.xf_tree_changes.specs.Trees.{KeepsLive, size_of_all}
+use Rattle.xf_tree_changes.proofs.PushLemmas.{kept-nodes, kept-live}
 use Rattle.xf_tree.specs.Calls.{with_contents}
 use Rattle.xf_tree.specs.State.{AllKept, IsSound, IsState, keeping_of}
 use Rattle.xf_tree.proofs.ForestLemmas.{tops-append}

@@ -3,10 +3,10 @@ use Rattle.std.proofs.Common.{◌≡◌, ℕ, ◌+◌, ◌==◌, true, false, Li
 use Rattle.std.specs.Prelude.{◌≤◌}
 use Rattle.std.proofs.lemmas.Bool.{cases_Bool}
 use Rattle.std.proofs.lemmas.Bool.Decides.{nat_tests}
-use Rattle.xf_doc.specs.declared.content.Node.{Node}
-use Rattle.xf_doc.specs.Forest.{has_number}
-use Rattle.xf_doc.specs.WellFormed.{are_apart}
-use Rattle.xf_walks.specs.Nodes.{times}
+use Rattle.xf_def_forest.specs.declared.content.Node.{Node}
+use Rattle.xf_def_forest.specs.Forest.{has_number}
+use Rattle.xf_def_forest.specs.WellFormed.{are_apart}
+use Rattle.xf_tree_walks.specs.Nodes.{times}
 
 pub none-has : (n : ℕ) (xs : List Node) → times n xs ≡ 0 → has_number n xs ≡ false
 none-has n [] h = refl

@@ -3,23 +3,23 @@ use Rattle.std.proofs.Common.{◌≡◌, ℕ, suc, ◌+◌, ◌-◌, ◌<◌, �
 use Rattle.std.proofs.lemmas.List.{take-append-drop, map-append, reverse-reverse, take_at, take-map, drop-map, drop-drop, take_more, get_or-take, get_or-drop}
 use Rattle.std.proofs.lemmas.Bool.{cases_Bool, cases_lt, true≢false}
 use Rattle.slab.specs.Slab.{Slab, get}
-use Rattle.xf_doc.specs.declared.content.Node.{Node}
-use Rattle.xf_doc.specs.declared.content.Content.{Content}
-use Rattle.xf_doc.specs.Forest.{has_number, first_tree, tree_of}
-use Rattle.xf_doc.specs.Changes.{shifted, moved_to, without_tree, with_part, with_below}
-use Rattle.xf_rows.specs.declared.rows.Row.{Row}
-use Rattle.xf_rows.specs.Rows.{deeper, deepened, tree_of as row_tree, after_tree, rest_of, no_row}
-use Rattle.xf_rows.proofs.RowLemmas.{split-at}
-use Rattle.xf_rows.proofs.CutLemmas.{tree-parts}
-use Rattle.xf_slots.specs.Slot.{Slot}
-use Rattle.xf_slots.specs.Keys.{number_in, content_in}
-use Rattle.xf_slots.proofs.AlikeLemmas.{eq-true}
-use Rattle.xf_walks.specs.Nodes.{node_of, times, StandsAt}
-use Rattle.xf_walks.proofs.NodeLemmas.{Parted, parted-without, parted-from, times-append}
-use Rattle.xf_walks.proofs.PlaceLemmas.{stands, below-is, past-is, has-true, times-at}
-use Rattle.xf_changes.specs.Below.{part_at, row_below, IsPlaced}
-use Rattle.xf_changes.proofs.MapLemmas.{IgnoresSize, map-grown, whole-map}
-use Rattle.xf_changes.proofs.PartLemmas.{part-is}
+use Rattle.xf_def_forest.specs.declared.content.Node.{Node}
+use Rattle.xf_def_forest.specs.declared.content.Content.{Content}
+use Rattle.xf_def_forest.specs.Forest.{has_number, first_tree, tree_of}
+use Rattle.xf_def_forest.specs.Changes.{shifted, moved_to, without_tree, with_part, with_below}
+use Rattle.xf_tree_rows.specs.declared.rows.Row.{Row}
+use Rattle.xf_tree_rows.specs.Rows.{deeper, deepened, tree_of as row_tree, after_tree, rest_of, no_row}
+use Rattle.xf_tree_rows.proofs.RowLemmas.{split-at}
+use Rattle.xf_tree_rows.proofs.CutLemmas.{tree-parts}
+use Rattle.xf_tree_contents.specs.Slot.{Slot}
+use Rattle.xf_tree_contents.specs.Keys.{number_in, content_in}
+use Rattle.xf_tree_contents.proofs.AlikeLemmas.{eq-true}
+use Rattle.xf_tree_walks.specs.Nodes.{node_of, times, StandsAt}
+use Rattle.xf_tree_walks.proofs.NodeLemmas.{Parted, parted-without, parted-from, times-append}
+use Rattle.xf_tree_walks.proofs.PlaceLemmas.{stands, below-is, past-is, has-true, times-at}
+use Rattle.xf_tree_changes.specs.Below.{part_at, row_below, IsPlaced}
+use Rattle.xf_tree_changes.proofs.MapLemmas.{IgnoresSize, map-grown, whole-map}
+use Rattle.xf_tree_changes.proofs.PartLemmas.{part-is}
 use Rattle.xf_tree.specs.State.{IsSound}
 use Rattle.xf_tree.proofs.MeansLemmas.{one_of}
 use Rattle.xf_tree.proofs.ForestLemmas.{node-ignores}

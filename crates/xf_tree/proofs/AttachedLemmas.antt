@@ -3,34 +3,34 @@ use Rattle.std.proofs.Common.{◌≡◌, ℕ, suc, ◌+◌, ◌-◌, ◌≤◌, 
 use Rattle.std.proofs.lemmas.List.{take-append-drop, drop-drop, map-append, length-map, take_more}
 use Rattle.std.proofs.lemmas.Bool.{cases_lt, cases_Bool, true≢false, false≢true}
 use Rattle.slab.specs.Slab.{Slab, get}
-use Rattle.xf_doc.specs.declared.content.Node.{Node}
-use Rattle.xf_doc.specs.declared.content.Content.{Content}
-use Rattle.xf_doc.specs.declared.content.Content.TheVariants.{Root, Element, Attribute, Text}
-use Rattle.xf_doc.specs.Changes.{shifted}
-use Rattle.xf_doc.specs.Forest.{is_root, is_element, is_attribute}
-use Rattle.xf_doc.specs.Limits.{node_count, all_size}
-use Rattle.xf_rows.specs.declared.rows.Row.{Row}
-use Rattle.xf_rows.specs.Rows.{Sized, deeper, deepened, grown, tree_of, after_tree, rest_of, AreSteps, depths, no_row, AllDeep}
-use Rattle.xf_rows.proofs.SizedLemmas.{lt-true, lt-false}
-use Rattle.xf_rows.proofs.CutLemmas.{tree-parts}
-use Rattle.xf_rows.proofs.RowLemmas.{split-at}
-use Rattle.xf_rows.proofs.ParentLemmas.{deep-prefix}
-use Rattle.xf_slots.specs.Slot.{Slot}
-use Rattle.xf_slots.specs.Keys.{content_in}
-use Rattle.xf_walks.specs.Leaves.{is_leaf, parts_in, NotDeeper, AreLeaves}
-use Rattle.xf_walks.specs.First.{attribute_depth, AreFirst, AllFrom}
-use Rattle.xf_walks.specs.Nodes.{node_of, times, AllLive, AllTops, StandsAt}
-use Rattle.xf_walks.proofs.NodeLemmas.{times-append}
-use Rattle.xf_walks.proofs.CountLemmas.{nodes-append, sizes-append, count-alike, size-alike}
-use Rattle.xf_walks.proofs.StepLemmas.{most_after, steps-append, steps-parts, steps-more, steps-raised, AllAbove}
-use Rattle.xf_walks.proofs.LeafLemmas.{leaves-append, leaves-parts, leaves-shifted, parts-append, first-not_deeper}
-use Rattle.xf_walks.proofs.FirstLemmas.{depth_behind, first-append, first-parts, first-anywhere}
-use Rattle.xf_walks.proofs.RootLemmas.{tops-parts}
-use Rattle.xf_changes.specs.Below.{part_at, IsPlaced}
-use Rattle.xf_changes.proofs.MapLemmas.{live-append, whole-map}
-use Rattle.xf_changes.proofs.PartLemmas.{part-deep}
-use Rattle.xf_changes.proofs.RestLemmas.{rest-steps, rest-leaves, rest-first}
-use Rattle.xf_changes.proofs.PlacedLemmas.{below-stops}
+use Rattle.xf_def_forest.specs.declared.content.Node.{Node}
+use Rattle.xf_def_forest.specs.declared.content.Content.{Content}
+use Rattle.xf_def_forest.specs.declared.content.Content.TheVariants.{Root, Element, Attribute, Text}
+use Rattle.xf_def_forest.specs.Changes.{shifted}
+use Rattle.xf_def_forest.specs.Forest.{is_root, is_element, is_attribute}
+use Rattle.xf_def_forest.specs.Limits.{node_count, all_size}
+use Rattle.xf_tree_rows.specs.declared.rows.Row.{Row}
+use Rattle.xf_tree_rows.specs.Rows.{Sized, deeper, deepened, grown, tree_of, after_tree, rest_of, AreSteps, depths, no_row, AllDeep}
+use Rattle.xf_tree_rows.proofs.SizedLemmas.{lt-true, lt-false}
+use Rattle.xf_tree_rows.proofs.CutLemmas.{tree-parts}
+use Rattle.xf_tree_rows.proofs.RowLemmas.{split-at}
+use Rattle.xf_tree_rows.proofs.ParentLemmas.{deep-prefix}
+use Rattle.xf_tree_contents.specs.Slot.{Slot}
+use Rattle.xf_tree_contents.specs.Keys.{content_in}
+use Rattle.xf_tree_walks.specs.Leaves.{is_leaf, parts_in, NotDeeper, AreLeaves}
+use Rattle.xf_tree_walks.specs.First.{attribute_depth, AreFirst, AllFrom}
+use Rattle.xf_tree_walks.specs.Nodes.{node_of, times, AllLive, AllTops, StandsAt}
+use Rattle.xf_tree_walks.proofs.NodeLemmas.{times-append}
+use Rattle.xf_tree_walks.proofs.CountLemmas.{nodes-append, sizes-append, count-alike, size-alike}
+use Rattle.xf_tree_walks.proofs.StepLemmas.{most_after, steps-append, steps-parts, steps-more, steps-raised, AllAbove}
+use Rattle.xf_tree_walks.proofs.LeafLemmas.{leaves-append, leaves-parts, leaves-shifted, parts-append, first-not_deeper}
+use Rattle.xf_tree_walks.proofs.FirstLemmas.{depth_behind, first-append, first-parts, first-anywhere}
+use Rattle.xf_tree_walks.proofs.RootLemmas.{tops-parts}
+use Rattle.xf_tree_changes.specs.Below.{part_at, IsPlaced}
+use Rattle.xf_tree_changes.proofs.MapLemmas.{live-append, whole-map}
+use Rattle.xf_tree_changes.proofs.PartLemmas.{part-deep}
+use Rattle.xf_tree_changes.proofs.RestLemmas.{rest-steps, rest-leaves, rest-first}
+use Rattle.xf_tree_changes.proofs.PlacedLemmas.{below-stops}
 use Rattle.xf_tree.specs.State.{IsSound, IsState}
 use Rattle.xf_tree.proofs.FirstRowLemmas.{tree-first, attribute-tree, part-first}
 use Rattle.xf_tree.proofs.ForestLemmas.{live-parts, live-reverse, tops-append, above-deep, first-low, depth-ignores}

@@ -4,29 +4,29 @@ use Rattle.std.specs.Prelude.{filter}
 use Rattle.std.proofs.lemmas.Bool.{cases_Bool, false≢true}
 use Rattle.std.proofs.lemmas.List.{length-map}
 use Rattle.slab.specs.Slab.{Slab, get}
-use Rattle.xf_doc.specs.declared.node.NodeId.{NodeId}
-use Rattle.xf_doc.specs.declared.content.Node.{Node}
-use Rattle.xf_doc.specs.declared.content.Content.TheVariants.{Text}
-use Rattle.xf_doc.specs.declared.content.Kind.TheVariants as kind
-use Rattle.xf_doc.specs.Forest.{is_text, is_attribute, own_text, kind_at}
-use Rattle.xf_doc.specs.Visit.{has, visits}
-use Rattle.xf_doc.specs.Shape.{has_elements}
-use Rattle.xf_doc.specs.Limits.{node_count, all_size, size_of}
-use Rattle.xf_doc.specs.Texts.{Keeping, KeptText, at_depth, text_node, with_texts, is_of, back, without, given_up, put_back, element_texts}
-use Rattle.xf_doc.proofs.RunLemmas.{text-again}
-use Rattle.xf_rows.specs.declared.rows.Row.{Row}
-use Rattle.xf_rows.specs.Rows.{Sized}
-use Rattle.xf_slots.specs.Slot.{Slot}
-use Rattle.xf_slots.specs.Keys.{kept_of, number_in, content_in, kept_times, KeepsButKept}
-use Rattle.xf_slots.proofs.AlikeLemmas.{eq-true}
-use Rattle.xf_walks.specs.Leaves.{parts_in, AreLeaves}
-use Rattle.xf_walks.specs.First.{AreFirst}
-use Rattle.xf_walks.specs.Nodes.{node_of, times, AllLive, AllTops, StandsAt, KeepsBut}
-use Rattle.xf_walks.proofs.NodeLemmas.{times-append}
-use Rattle.xf_walks.proofs.CountLemmas.{nodes-append, sizes-append, nodes-cons}
-use Rattle.xf_changes.specs.Trees.{unsized}
-use Rattle.xf_changes.specs.Texts.{attributes, children, text_row, depth_at, run_of, with_text_rows, places_of, is_wanted, is_left}
-use Rattle.xf_changes.proofs.SameLemmas.{SameAt, nodes-same, same-where}
+use Rattle.xf_def_forest.specs.declared.node.NodeId.{NodeId}
+use Rattle.xf_def_forest.specs.declared.content.Node.{Node}
+use Rattle.xf_def_forest.specs.declared.content.Content.TheVariants.{Text}
+use Rattle.xf_def_forest.specs.declared.content.Kind.TheVariants as kind
+use Rattle.xf_def_forest.specs.Forest.{is_text, is_attribute, own_text, kind_at}
+use Rattle.xf_def_forest.specs.Visit.{has, visits}
+use Rattle.xf_def_forest.specs.Shape.{has_elements}
+use Rattle.xf_def_forest.specs.Limits.{node_count, all_size, size_of}
+use Rattle.xf_def_forest.specs.Texts.{Keeping, KeptText, at_depth, text_node, with_texts, is_of, back, without, given_up, put_back, element_texts}
+use Rattle.xf_def_forest.proofs.RunLemmas.{text-again}
+use Rattle.xf_tree_rows.specs.declared.rows.Row.{Row}
+use Rattle.xf_tree_rows.specs.Rows.{Sized}
+use Rattle.xf_tree_contents.specs.Slot.{Slot}
+use Rattle.xf_tree_contents.specs.Keys.{kept_of, number_in, content_in, kept_times, KeepsButKept}
+use Rattle.xf_tree_contents.proofs.AlikeLemmas.{eq-true}
+use Rattle.xf_tree_walks.specs.Leaves.{parts_in, AreLeaves}
+use Rattle.xf_tree_walks.specs.First.{AreFirst}
+use Rattle.xf_tree_walks.specs.Nodes.{node_of, times, AllLive, AllTops, StandsAt, KeepsBut}
+use Rattle.xf_tree_walks.proofs.NodeLemmas.{times-append}
+use Rattle.xf_tree_walks.proofs.CountLemmas.{nodes-append, sizes-append, nodes-cons}
+use Rattle.xf_tree_changes.specs.Trees.{unsized}
+use Rattle.xf_tree_changes.specs.Texts.{attributes, children, text_row, depth_at, run_of, with_text_rows, places_of, is_wanted, is_left}
+use Rattle.xf_tree_changes.proofs.SameLemmas.{SameAt, nodes-same, same-where}
 use Rattle.xf_tree.specs.State.{AllKept, IsSound, IsState, keeping_of}
 use Rattle.xf_tree.proofs.DropLemmas.{live-same, kept-where}
 use Rattle.xf_tree.proofs.ValueLemmas.{kept-live_where}

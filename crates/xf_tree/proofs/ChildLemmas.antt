@@ -6,24 +6,24 @@ use Rattle.std.proofs.lemmas.Bool.{cases_Bool}
 use Rattle.std.proofs.lemmas.List.{length-map}
 use Rattle.std.proofs.lemmas.List.Sums.{length-filter}
 use Rattle.slab.specs.Slab.{Slab}
-use Rattle.xf_doc.specs.declared.content.Content.{Content}
-use Rattle.xf_doc.specs.declared.content.Name.{Name}
-use Rattle.xf_doc.specs.Forest.{Forest, has_number, content_at, is_attribute, is_element, name_in}
-use Rattle.xf_doc.specs.Changes.{is_lesser}
-use Rattle.xf_doc.specs.Needs.{lacks_name}
-use Rattle.xf_doc.specs.Plant.{is_less, written_of}
-use Rattle.xf_doc.specs.Shape.{has_elements}
-use Rattle.xf_doc.specs.Visit.{Visit, visits, is_first, numbers}
-use Rattle.xf_doc.specs.WellFormed.{have_same_name}
-use Rattle.xf_rows.specs.declared.rows.Row.{Row}
-use Rattle.xf_rows.specs.Rows.{deeper, no_row, AreSteps}
-use Rattle.xf_rows.proofs.SizedLemmas.{lt-true}
-use Rattle.xf_slots.specs.Slot.{Slot}
-use Rattle.xf_walks.specs.Nodes.{node_of, StandsAt}
-use Rattle.xf_walks.specs.Kids.{is_kid, is_attribute_like, is_lesser_attribute, kids_at}
-use Rattle.xf_walks.proofs.CountLemmas.{count-cons}
-use Rattle.xf_walks.proofs.PlaceLemmas.{stands, below-is}
-use Rattle.xf_walks.proofs.KidLemmas.{kids, kids-none, parted-kids, node_depths, filtered-length}
+use Rattle.xf_def_forest.specs.declared.content.Content.{Content}
+use Rattle.xf_def_forest.specs.declared.content.Name.{Name}
+use Rattle.xf_def_forest.specs.Forest.{Forest, has_number, content_at, is_attribute, is_element, name_in}
+use Rattle.xf_def_forest.specs.Changes.{is_lesser}
+use Rattle.xf_def_forest.specs.Needs.{lacks_name}
+use Rattle.xf_def_forest.specs.Plant.{is_less, written_of}
+use Rattle.xf_def_forest.specs.Shape.{has_elements}
+use Rattle.xf_def_forest.specs.Visit.{Visit, visits, is_first, numbers}
+use Rattle.xf_def_forest.specs.WellFormed.{have_same_name}
+use Rattle.xf_tree_rows.specs.declared.rows.Row.{Row}
+use Rattle.xf_tree_rows.specs.Rows.{deeper, no_row, AreSteps}
+use Rattle.xf_tree_rows.proofs.SizedLemmas.{lt-true}
+use Rattle.xf_tree_contents.specs.Slot.{Slot}
+use Rattle.xf_tree_walks.specs.Nodes.{node_of, StandsAt}
+use Rattle.xf_tree_walks.specs.Kids.{is_kid, is_attribute_like, is_lesser_attribute, kids_at}
+use Rattle.xf_tree_walks.proofs.CountLemmas.{count-cons}
+use Rattle.xf_tree_walks.proofs.PlaceLemmas.{stands, below-is}
+use Rattle.xf_tree_walks.proofs.KidLemmas.{kids, kids-none, parted-kids, node_depths, filtered-length}
 use Rattle.xf_tree.specs.State.{IsSound}
 use Rattle.xf_tree.proofs.MeansLemmas.{one_of}
 use Rattle.xf_tree.proofs.AboveLemmas.{depths-of}

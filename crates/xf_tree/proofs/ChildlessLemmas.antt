@@ -6,30 +6,30 @@ use Rattle.std.proofs.lemmas.Bool.{cases_Bool, cases_lt, true≢false, false≢t
 use Rattle.std.proofs.lemmas.List.{map-append}
 use Rattle.std.proofs.lemmas.List.Folds.{list_any-append}
 use Rattle.slab.specs.Slab.{Slab, get}
-use Rattle.xf_doc.specs.declared.content.Node.{Node}
-use Rattle.xf_doc.specs.declared.content.Content.{Content}
-use Rattle.xf_doc.specs.declared.content.Content.TheVariants.{Root, Element, Attribute, Text}
-use Rattle.xf_doc.specs.declared.content.Kind.{Kind}
-use Rattle.xf_doc.specs.declared.content.Kind.TheVariants as kind
-use Rattle.xf_doc.specs.Forest.{is_root, is_element, is_attribute, is_text, kind_of, kind_at, below, first_tree, tree_of}
-use Rattle.xf_doc.specs.Visit.{Visit, is_first, still_above, numbers, visit, visits_from, visits}
-use Rattle.xf_doc.specs.Shape.{has_elements}
-use Rattle.xf_doc.proofs.VisitLemmas.{BeginsWithin, closed, deeper-by_one}
-use Rattle.xf_rows.specs.declared.rows.Row.{Row}
-use Rattle.xf_rows.specs.Rows.{AreSteps, depths, no_row}
-use Rattle.xf_rows.proofs.SizedLemmas.{lt-true, lt-false}
-use Rattle.xf_slots.specs.Slot.{Slot}
-use Rattle.xf_slots.specs.Keys.{content_in}
-use Rattle.xf_slots.proofs.AlikeLemmas.{eq-true}
-use Rattle.xf_walks.specs.Leaves.{is_leaf, parts_in, NotDeeper, AreLeaves}
-use Rattle.xf_walks.specs.Nodes.{node_of, AllTops, StandsAt}
-use Rattle.xf_walks.proofs.NodeLemmas.{Parted, parted-from}
-use Rattle.xf_walks.proofs.StepLemmas.{steps-parts}
-use Rattle.xf_walks.proofs.StackLemmas.{stack, visits-append}
-use Rattle.xf_walks.proofs.LeafLemmas.{leaves-parts, parts-append}
-use Rattle.xf_walks.proofs.RootLemmas.{tops-parts}
-use Rattle.xf_walks.proofs.PlaceLemmas.{stands, below-is}
-use Rattle.xf_changes.specs.Texts.{AreAt, depth_at, run_of, children, is_child_row}
+use Rattle.xf_def_forest.specs.declared.content.Node.{Node}
+use Rattle.xf_def_forest.specs.declared.content.Content.{Content}
+use Rattle.xf_def_forest.specs.declared.content.Content.TheVariants.{Root, Element, Attribute, Text}
+use Rattle.xf_def_forest.specs.declared.content.Kind.{Kind}
+use Rattle.xf_def_forest.specs.declared.content.Kind.TheVariants as kind
+use Rattle.xf_def_forest.specs.Forest.{is_root, is_element, is_attribute, is_text, kind_of, kind_at, below, first_tree, tree_of}
+use Rattle.xf_def_forest.specs.Visit.{Visit, is_first, still_above, numbers, visit, visits_from, visits}
+use Rattle.xf_def_forest.specs.Shape.{has_elements}
+use Rattle.xf_def_forest.proofs.VisitLemmas.{BeginsWithin, closed, deeper-by_one}
+use Rattle.xf_tree_rows.specs.declared.rows.Row.{Row}
+use Rattle.xf_tree_rows.specs.Rows.{AreSteps, depths, no_row}
+use Rattle.xf_tree_rows.proofs.SizedLemmas.{lt-true, lt-false}
+use Rattle.xf_tree_contents.specs.Slot.{Slot}
+use Rattle.xf_tree_contents.specs.Keys.{content_in}
+use Rattle.xf_tree_contents.proofs.AlikeLemmas.{eq-true}
+use Rattle.xf_tree_walks.specs.Leaves.{is_leaf, parts_in, NotDeeper, AreLeaves}
+use Rattle.xf_tree_walks.specs.Nodes.{node_of, AllTops, StandsAt}
+use Rattle.xf_tree_walks.proofs.NodeLemmas.{Parted, parted-from}
+use Rattle.xf_tree_walks.proofs.StepLemmas.{steps-parts}
+use Rattle.xf_tree_walks.proofs.StackLemmas.{stack, visits-append}
+use Rattle.xf_tree_walks.proofs.LeafLemmas.{leaves-parts, parts-append}
+use Rattle.xf_tree_walks.proofs.RootLemmas.{tops-parts}
+use Rattle.xf_tree_walks.proofs.PlaceLemmas.{stands, below-is}
+use Rattle.xf_tree_changes.specs.Texts.{AreAt, depth_at, run_of, children, is_child_row}
 use Rattle.xf_tree.specs.State.{IsSound}
 use Rattle.xf_tree.proofs.MeansLemmas.{one_of, content-means}
 

@@ -4,29 +4,29 @@ use Rattle.std.proofs.lemmas.Bool.{cases_Bool, false≢true}
 use Rattle.std.specs.List.{list_any}
 use Rattle.std.proofs.lemmas.List.{take-append-drop, map-append}
 use Rattle.slab.specs.Slab.{Slab, get}
-use Rattle.xf_doc.specs.declared.content.Node.{Node}
-use Rattle.xf_doc.specs.declared.content.Content.{Content}
-use Rattle.xf_doc.specs.Changes.{shifted, contents_in}
-use Rattle.xf_doc.specs.Forest.{is_root, has_number, first_tree, tree_of}
-use Rattle.xf_doc.specs.Limits.{size_of}
-use Rattle.xf_rows.specs.declared.rows.Row.{Row}
-use Rattle.xf_rows.specs.Rows.{deeper, tree_of as row_tree, AreSteps, depths, no_row, AllDeep}
-use Rattle.xf_rows.proofs.CutLemmas.{all-deeper}
-use Rattle.xf_rows.proofs.ParentLemmas.{deep-prefix}
-use Rattle.xf_rows.proofs.RowLemmas.{split-at}
-use Rattle.xf_slots.specs.Slot.{Slot}
-use Rattle.xf_slots.specs.Keys.{content_in}
-use Rattle.xf_slots.proofs.AlikeLemmas.{eq-true}
-use Rattle.xf_walks.specs.Leaves.{parts_in, AreLeaves}
-use Rattle.xf_walks.specs.First.{AreFirst}
-use Rattle.xf_walks.specs.Nodes.{node_of, times, AllTops, IsTree, AllPlain, StandsAt}
-use Rattle.xf_walks.proofs.NodeLemmas.{Parted, parted-from}
-use Rattle.xf_walks.proofs.StepLemmas.{steps-parts, steps-lowered}
-use Rattle.xf_walks.proofs.LeafLemmas.{leaves-parts, leaves-shifted, parts-append}
-use Rattle.xf_walks.proofs.RootLemmas.{tops-parts}
-use Rattle.xf_walks.proofs.PlaceLemmas.{stands, below-is, parted-at}
-use Rattle.xf_walks.proofs.StackLemmas.{absent-parts}
-use Rattle.xf_changes.specs.Trees.{part_of}
+use Rattle.xf_def_forest.specs.declared.content.Node.{Node}
+use Rattle.xf_def_forest.specs.declared.content.Content.{Content}
+use Rattle.xf_def_forest.specs.Changes.{shifted, contents_in}
+use Rattle.xf_def_forest.specs.Forest.{is_root, has_number, first_tree, tree_of}
+use Rattle.xf_def_forest.specs.Limits.{size_of}
+use Rattle.xf_tree_rows.specs.declared.rows.Row.{Row}
+use Rattle.xf_tree_rows.specs.Rows.{deeper, tree_of as row_tree, AreSteps, depths, no_row, AllDeep}
+use Rattle.xf_tree_rows.proofs.CutLemmas.{all-deeper}
+use Rattle.xf_tree_rows.proofs.ParentLemmas.{deep-prefix}
+use Rattle.xf_tree_rows.proofs.RowLemmas.{split-at}
+use Rattle.xf_tree_contents.specs.Slot.{Slot}
+use Rattle.xf_tree_contents.specs.Keys.{content_in}
+use Rattle.xf_tree_contents.proofs.AlikeLemmas.{eq-true}
+use Rattle.xf_tree_walks.specs.Leaves.{parts_in, AreLeaves}
+use Rattle.xf_tree_walks.specs.First.{AreFirst}
+use Rattle.xf_tree_walks.specs.Nodes.{node_of, times, AllTops, IsTree, AllPlain, StandsAt}
+use Rattle.xf_tree_walks.proofs.NodeLemmas.{Parted, parted-from}
+use Rattle.xf_tree_walks.proofs.StepLemmas.{steps-parts, steps-lowered}
+use Rattle.xf_tree_walks.proofs.LeafLemmas.{leaves-parts, leaves-shifted, parts-append}
+use Rattle.xf_tree_walks.proofs.RootLemmas.{tops-parts}
+use Rattle.xf_tree_walks.proofs.PlaceLemmas.{stands, below-is, parted-at}
+use Rattle.xf_tree_walks.proofs.StackLemmas.{absent-parts}
+use Rattle.xf_tree_changes.specs.Trees.{part_of}
 use Rattle.xf_tree.specs.State.{IsState}
 use Rattle.xf_tree.proofs.FirstRowLemmas.{tree-first}
 use Rattle.xf_tree.proofs.ForestLemmas.{above-deep}

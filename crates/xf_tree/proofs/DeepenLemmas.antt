@@ -1,13 +1,13 @@
 -- Rows that go deeper together.
 use Rattle.std.proofs.Common.{◌≡◌, ℕ, ◌+◌, ◌-◌, ◌==◌, if◌then◌else◌, List, [], ◌∷◌, map, refl, ap, ◌∙◌, arith}
 use Rattle.slab.specs.Slab.{Slab, get}
-use Rattle.xf_doc.specs.declared.content.Node.{Node}
-use Rattle.xf_doc.specs.Changes.{shifted}
-use Rattle.xf_rows.specs.declared.rows.Row.{Row}
-use Rattle.xf_rows.specs.Rows.{deepened, depths, AllDeep}
-use Rattle.xf_slots.specs.Slot.{Slot}
-use Rattle.xf_slots.specs.Keys.{number_in, content_in}
-use Rattle.xf_walks.specs.Nodes.{node_of, times, AllLive, AllTops}
+use Rattle.xf_def_forest.specs.declared.content.Node.{Node}
+use Rattle.xf_def_forest.specs.Changes.{shifted}
+use Rattle.xf_tree_rows.specs.declared.rows.Row.{Row}
+use Rattle.xf_tree_rows.specs.Rows.{deepened, depths, AllDeep}
+use Rattle.xf_tree_contents.specs.Slot.{Slot}
+use Rattle.xf_tree_contents.specs.Keys.{number_in, content_in}
+use Rattle.xf_tree_walks.specs.Nodes.{node_of, times, AllLive, AllTops}
 
 pub lowered : (s : Slab Slot) (by : ℕ) (rows : List Row) → map (node_of s) (map (deepened by) rows) ≡ map (shifted 0 by) (map (node_of s) rows)
 lowered s by [] = refl

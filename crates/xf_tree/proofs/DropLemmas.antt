@@ -2,25 +2,25 @@
 use Rattle.std.proofs.Common.{◌≡◌, ℕ, ◌+◌, ◌-◌, ◌≤◌, if◌then◌else◌, List, [], ◌∷◌, ◌++◌, map, length, take, drop, IsSome, refl, sym, ap, ◌∙◌, subst, arith}
 use Rattle.std.proofs.lemmas.List.{take-append-drop, map-append, take_rest}
 use Rattle.slab.specs.Slab.{Slab, get}
-use Rattle.xf_doc.specs.declared.content.Node.{Node}
-use Rattle.xf_doc.specs.Limits.{node_count, all_size, size_of}
-use Rattle.xf_rows.specs.declared.rows.Row.{Row}
-use Rattle.xf_rows.specs.Rows.{deeper, Sized, AreSteps, depths}
-use Rattle.xf_rows.proofs.SizedLemmas.{sized-front}
-use Rattle.xf_rows.proofs.CutLemmas.{all-deep-zero}
-use Rattle.xf_slots.specs.Slot.{Slot}
-use Rattle.xf_slots.specs.Keys.{kept_of, number_in, content_in, kept_times, KeepsButKept}
-use Rattle.xf_slots.proofs.AlikeLemmas.{eq-true}
-use Rattle.xf_walks.specs.Leaves.{parts_in, AreLeaves}
-use Rattle.xf_walks.specs.First.{AreFirst}
-use Rattle.xf_walks.specs.Nodes.{node_of, times, AllLive, AllTops, KeepsBut}
-use Rattle.xf_walks.proofs.NodeLemmas.{times-append}
-use Rattle.xf_walks.proofs.CountLemmas.{nodes-append, sizes-append}
-use Rattle.xf_walks.proofs.StepLemmas.{steps-parts}
-use Rattle.xf_walks.proofs.LeafLemmas.{leaves-parts, parts-append}
-use Rattle.xf_walks.proofs.FirstLemmas.{first-parts}
-use Rattle.xf_walks.proofs.RootLemmas.{tops-parts}
-use Rattle.xf_changes.proofs.SameLemmas.{SameAt, nodes-same, same-where}
+use Rattle.xf_def_forest.specs.declared.content.Node.{Node}
+use Rattle.xf_def_forest.specs.Limits.{node_count, all_size, size_of}
+use Rattle.xf_tree_rows.specs.declared.rows.Row.{Row}
+use Rattle.xf_tree_rows.specs.Rows.{deeper, Sized, AreSteps, depths}
+use Rattle.xf_tree_rows.proofs.SizedLemmas.{sized-front}
+use Rattle.xf_tree_rows.proofs.CutLemmas.{all-deep-zero}
+use Rattle.xf_tree_contents.specs.Slot.{Slot}
+use Rattle.xf_tree_contents.specs.Keys.{kept_of, number_in, content_in, kept_times, KeepsButKept}
+use Rattle.xf_tree_contents.proofs.AlikeLemmas.{eq-true}
+use Rattle.xf_tree_walks.specs.Leaves.{parts_in, AreLeaves}
+use Rattle.xf_tree_walks.specs.First.{AreFirst}
+use Rattle.xf_tree_walks.specs.Nodes.{node_of, times, AllLive, AllTops, KeepsBut}
+use Rattle.xf_tree_walks.proofs.NodeLemmas.{times-append}
+use Rattle.xf_tree_walks.proofs.CountLemmas.{nodes-append, sizes-append}
+use Rattle.xf_tree_walks.proofs.StepLemmas.{steps-parts}
+use Rattle.xf_tree_walks.proofs.LeafLemmas.{leaves-parts, parts-append}
+use Rattle.xf_tree_walks.proofs.FirstLemmas.{first-parts}
+use Rattle.xf_tree_walks.proofs.RootLemmas.{tops-parts}
+use Rattle.xf_tree_changes.proofs.SameLemmas.{SameAt, nodes-same, same-where}
 use Rattle.xf_tree.specs.State.{IsSound, IsState}
 use Rattle.xf_tree.proofs.ForestLemmas.{live-parts}
 

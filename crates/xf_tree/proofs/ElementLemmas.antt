@@ -4,24 +4,24 @@ use Rattle.std.specs.Prelude.{count_by}
 use Rattle.std.proofs.lemmas.Bool.{cases_lt}
 use Rattle.std.proofs.lemmas.List.{take-append-drop, map-append, reverse-append}
 use Rattle.slab.specs.Slab.{Slab}
-use Rattle.xf_doc.specs.declared.content.Node.{Node}
-use Rattle.xf_doc.specs.Changes.{elements_above}
-use Rattle.xf_doc.specs.Forest.{has_number, is_element}
-use Rattle.xf_doc.specs.Visit.{Visit, visit, visits, visits_from, still_above, numbers, has, ancestors_of}
-use Rattle.xf_doc.proofs.RenumberLaws.{map-reverse}
-use Rattle.xf_rows.specs.declared.rows.Row.{Row}
-use Rattle.xf_rows.specs.Rows.{no_row}
-use Rattle.xf_rows.proofs.SizedLemmas.{lt-true, lt-false}
-use Rattle.xf_rows.proofs.RowLemmas.{reverse-take}
-use Rattle.xf_slots.specs.Slot.{Slot}
-use Rattle.xf_slots.proofs.AlikeLemmas.{eq-true}
-use Rattle.xf_walks.specs.Nodes.{node_of, times, StandsAt}
-use Rattle.xf_walks.proofs.NodeLemmas.{eq-turned, times-append, absent-times}
-use Rattle.xf_walks.proofs.CountLemmas.{count-append, count-cons}
-use Rattle.xf_walks.proofs.StackLemmas.{stack, absent-above, absent-cons, absent-parts, has-numbers, still-shut, parted-ancestors}
-use Rattle.xf_walks.proofs.PlaceLemmas.{stands}
-use Rattle.xf_walks.proofs.ParentLemmas.{opened, stack-opened}
-use Rattle.xf_changes.specs.Below.{elements_open, elements_over}
+use Rattle.xf_def_forest.specs.declared.content.Node.{Node}
+use Rattle.xf_def_forest.specs.Changes.{elements_above}
+use Rattle.xf_def_forest.specs.Forest.{has_number, is_element}
+use Rattle.xf_def_forest.specs.Visit.{Visit, visit, visits, visits_from, still_above, numbers, has, ancestors_of}
+use Rattle.xf_def_forest.proofs.RenumberLaws.{map-reverse}
+use Rattle.xf_tree_rows.specs.declared.rows.Row.{Row}
+use Rattle.xf_tree_rows.specs.Rows.{no_row}
+use Rattle.xf_tree_rows.proofs.SizedLemmas.{lt-true, lt-false}
+use Rattle.xf_tree_rows.proofs.RowLemmas.{reverse-take}
+use Rattle.xf_tree_contents.specs.Slot.{Slot}
+use Rattle.xf_tree_contents.proofs.AlikeLemmas.{eq-true}
+use Rattle.xf_tree_walks.specs.Nodes.{node_of, times, StandsAt}
+use Rattle.xf_tree_walks.proofs.NodeLemmas.{eq-turned, times-append, absent-times}
+use Rattle.xf_tree_walks.proofs.CountLemmas.{count-append, count-cons}
+use Rattle.xf_tree_walks.proofs.StackLemmas.{stack, absent-above, absent-cons, absent-parts, has-numbers, still-shut, parted-ancestors}
+use Rattle.xf_tree_walks.proofs.PlaceLemmas.{stands}
+use Rattle.xf_tree_walks.proofs.ParentLemmas.{opened, stack-opened}
+use Rattle.xf_tree_changes.specs.Below.{elements_open, elements_over}
 
 -- an element among these nodes
 abbrev is_among : List Node → Node → Bool

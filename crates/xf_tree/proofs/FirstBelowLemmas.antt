@@ -3,19 +3,19 @@ use Rattle.std.proofs.Common.{◌≡◌, ℕ, suc, ◌+◌, ◌<◌, ◌≤◌, 
 use Rattle.std.specs.Prelude.{filter}
 use Rattle.std.proofs.lemmas.Bool.{cases_Bool, true≢false, false≢true}
 use Rattle.slab.specs.Slab.{Slab, get}
-use Rattle.xf_doc.specs.declared.content.Node.{Node}
-use Rattle.xf_doc.specs.declared.content.Content.{Content}
-use Rattle.xf_doc.specs.declared.content.Content.TheVariants.{Root, Element, Attribute, Text}
-use Rattle.xf_doc.specs.Forest.{is_element, is_attribute, is_text}
-use Rattle.xf_doc.specs.Texts.{at_depth}
-use Rattle.xf_rows.specs.declared.rows.Row.{Row}
-use Rattle.xf_slots.specs.Slot.{Slot}
-use Rattle.xf_slots.specs.Keys.{content_in}
-use Rattle.xf_walks.specs.Leaves.{parts_in, NotDeeper}
-use Rattle.xf_walks.specs.First.{attribute_depth, AreFirst, AllFrom}
-use Rattle.xf_walks.specs.Nodes.{node_of}
-use Rattle.xf_walks.proofs.FirstLemmas.{depth_behind, first-append, first-parts, first-anywhere, first-low, attribute-behind}
-use Rattle.xf_changes.specs.Texts.{AreAt}
+use Rattle.xf_def_forest.specs.declared.content.Node.{Node}
+use Rattle.xf_def_forest.specs.declared.content.Content.{Content}
+use Rattle.xf_def_forest.specs.declared.content.Content.TheVariants.{Root, Element, Attribute, Text}
+use Rattle.xf_def_forest.specs.Forest.{is_element, is_attribute, is_text}
+use Rattle.xf_def_forest.specs.Texts.{at_depth}
+use Rattle.xf_tree_rows.specs.declared.rows.Row.{Row}
+use Rattle.xf_tree_contents.specs.Slot.{Slot}
+use Rattle.xf_tree_contents.specs.Keys.{content_in}
+use Rattle.xf_tree_walks.specs.Leaves.{parts_in, NotDeeper}
+use Rattle.xf_tree_walks.specs.First.{attribute_depth, AreFirst, AllFrom}
+use Rattle.xf_tree_walks.specs.Nodes.{node_of}
+use Rattle.xf_tree_walks.proofs.FirstLemmas.{depth_behind, first-append, first-parts, first-anywhere, first-low, attribute-behind}
+use Rattle.xf_tree_changes.specs.Texts.{AreAt}
 use Rattle.xf_tree.proofs.UnsizedLemmas.{AreTextNodes}
 
 -- a content for another, where both are attributes or neither is, and an attribute stands as deep behind both

@@ -2,24 +2,24 @@
 use Rattle.std.proofs.Common.{◌≡◌, ℕ, zero, suc, ◌+◌, ◌-◌, ◌<◌, ◌≤◌, ◌==◌, ◌&&◌, ◌||◌, ◌⊎◌, true, false, List, [], ◌∷◌, map, length, take, drop, get_or, nat_lt, refl, sym, ap, ◌∙◌, subst, inl, inr, arith}
 use Rattle.std.proofs.lemmas.Bool.{cases_Bool, true≢false, and_parts, or_parts}
 use Rattle.slab.specs.Slab.{Slab, get}
-use Rattle.xf_doc.specs.declared.content.Content.{Content}
-use Rattle.xf_doc.specs.Changes.{shifted, at_place}
-use Rattle.xf_doc.specs.Forest.{is_attribute}
-use Rattle.xf_rows.specs.declared.rows.Row.{Row}
-use Rattle.xf_rows.specs.Rows.{deeper, tree_of, no_row, AllDeep}
-use Rattle.xf_rows.proofs.RowLemmas.{split-at}
-use Rattle.xf_rows.proofs.ParentLemmas.{deep-prefix}
-use Rattle.xf_slots.specs.Slot.{Slot}
-use Rattle.xf_slots.specs.Keys.{content_in}
-use Rattle.xf_walks.specs.Leaves.{parts_in, NotDeeper, AreLeaves}
-use Rattle.xf_walks.specs.First.{attribute_depth, AreFirst}
-use Rattle.xf_walks.specs.Nodes.{node_of}
-use Rattle.xf_walks.proofs.FirstLemmas.{depth_behind, first-shifted, behind-deep, attribute-behind}
-use Rattle.xf_walks.proofs.NodeLemmas.{eq-is}
-use Rattle.xf_walks.proofs.StackLemmas.{lt-from, le-from}
-use Rattle.xf_changes.specs.Below.{child_at, attribute_at, part_at}
-use Rattle.xf_changes.proofs.PartLemmas.{attribute-leaf}
-use Rattle.xf_changes.proofs.FirstRowLemmas.{tree-below, without-tree}
+use Rattle.xf_def_forest.specs.declared.content.Content.{Content}
+use Rattle.xf_def_forest.specs.Changes.{shifted, at_place}
+use Rattle.xf_def_forest.specs.Forest.{is_attribute}
+use Rattle.xf_tree_rows.specs.declared.rows.Row.{Row}
+use Rattle.xf_tree_rows.specs.Rows.{deeper, tree_of, no_row, AllDeep}
+use Rattle.xf_tree_rows.proofs.RowLemmas.{split-at}
+use Rattle.xf_tree_rows.proofs.ParentLemmas.{deep-prefix}
+use Rattle.xf_tree_contents.specs.Slot.{Slot}
+use Rattle.xf_tree_contents.specs.Keys.{content_in}
+use Rattle.xf_tree_walks.specs.Leaves.{parts_in, NotDeeper, AreLeaves}
+use Rattle.xf_tree_walks.specs.First.{attribute_depth, AreFirst}
+use Rattle.xf_tree_walks.specs.Nodes.{node_of}
+use Rattle.xf_tree_walks.proofs.FirstLemmas.{depth_behind, first-shifted, behind-deep, attribute-behind}
+use Rattle.xf_tree_walks.proofs.NodeLemmas.{eq-is}
+use Rattle.xf_tree_walks.proofs.StackLemmas.{lt-from, le-from}
+use Rattle.xf_tree_changes.specs.Below.{child_at, attribute_at, part_at}
+use Rattle.xf_tree_changes.proofs.PartLemmas.{attribute-leaf}
+use Rattle.xf_tree_changes.proofs.FirstRowLemmas.{tree-below, without-tree}
 
 -- the tree at a place, where its top may stand at this depth
 pub tree-first : (s : Slab Slot) (at to e : ℕ) (old : List Row) → at < length old → (is_attribute (content_in (get s (get_or old at no_row).key)) ≡ true → 0 < to → to ≡ e) → AreFirst 0 (parts_in (map (node_of s) old))

@@ -3,22 +3,22 @@ use Rattle.std.proofs.Common.{◌≡◌, ℕ, suc, ◌+◌, ◌-◌, ◌<◌, �
 use Rattle.std.proofs.lemmas.Bool.{cases_lt}
 use Rattle.std.proofs.lemmas.List.{take-append-drop, reverse-append, reverse-reverse, map-append}
 use Rattle.slab.specs.Slab.{Slab}
-use Rattle.xf_doc.specs.declared.content.Node.{Node}
-use Rattle.xf_doc.specs.Forest.{first_tree, tree_of as tree_of_node}
-use Rattle.xf_doc.specs.Changes.{moved_to, without_tree}
-use Rattle.xf_doc.specs.Limits.{node_count, all_size}
-use Rattle.xf_rows.specs.declared.rows.Row.{Row}
-use Rattle.xf_rows.specs.Rows.{deeper, shrunk, raised, tree_of, after_tree, top_depth, IsCut, AreSteps, depths, no_row, AllDeep}
-use Rattle.xf_rows.proofs.SizedLemmas.{lt-true, lt-false}
-use Rattle.xf_rows.proofs.CutLemmas.{stops-after, all-deeper}
-use Rattle.xf_rows.proofs.RowLemmas.{split-at}
-use Rattle.xf_slots.specs.Slot.{Slot}
-use Rattle.xf_walks.specs.Nodes.{node_of, times, AllLive, AllTops, StandsAt}
-use Rattle.xf_walks.proofs.NodeLemmas.{parted-without, parted-from, times-append}
-use Rattle.xf_walks.proofs.PlaceLemmas.{stands, below-is, past-is}
-use Rattle.xf_walks.proofs.StepLemmas.{most_after, steps-append, steps-parts, steps-lowered, AllAbove}
-use Rattle.xf_walks.proofs.CountLemmas.{nodes-append, sizes-append, count-alike, size-alike}
-use Rattle.xf_changes.proofs.MapLemmas.{IgnoresSize, map-shrunk, whole-map, live-append}
+use Rattle.xf_def_forest.specs.declared.content.Node.{Node}
+use Rattle.xf_def_forest.specs.Forest.{first_tree, tree_of as tree_of_node}
+use Rattle.xf_def_forest.specs.Changes.{moved_to, without_tree}
+use Rattle.xf_def_forest.specs.Limits.{node_count, all_size}
+use Rattle.xf_tree_rows.specs.declared.rows.Row.{Row}
+use Rattle.xf_tree_rows.specs.Rows.{deeper, shrunk, raised, tree_of, after_tree, top_depth, IsCut, AreSteps, depths, no_row, AllDeep}
+use Rattle.xf_tree_rows.proofs.SizedLemmas.{lt-true, lt-false}
+use Rattle.xf_tree_rows.proofs.CutLemmas.{stops-after, all-deeper}
+use Rattle.xf_tree_rows.proofs.RowLemmas.{split-at}
+use Rattle.xf_tree_contents.specs.Slot.{Slot}
+use Rattle.xf_tree_walks.specs.Nodes.{node_of, times, AllLive, AllTops, StandsAt}
+use Rattle.xf_tree_walks.proofs.NodeLemmas.{parted-without, parted-from, times-append}
+use Rattle.xf_tree_walks.proofs.PlaceLemmas.{stands, below-is, past-is}
+use Rattle.xf_tree_walks.proofs.StepLemmas.{most_after, steps-append, steps-parts, steps-lowered, AllAbove}
+use Rattle.xf_tree_walks.proofs.CountLemmas.{nodes-append, sizes-append, count-alike, size-alike}
+use Rattle.xf_tree_changes.proofs.MapLemmas.{IgnoresSize, map-shrunk, whole-map, live-append}
 use Rattle.xf_tree.specs.State.{IsCounted}
 
 -- ---- a cut as parts of the list

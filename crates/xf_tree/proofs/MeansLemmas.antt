@@ -2,28 +2,28 @@
 use Rattle.std.proofs.Common.{◌≡◌, ℕ, ◌≤◌, List, map, get_or, nat_lt, ap, ◌∙◌, arith, Some, option_map, ◌+◌, ◌-◌, cond, ◌∷◌, length, take, drop, sym, [], length-take}
 use Rattle.std.proofs.lemmas.List.{length-map}
 use Rattle.slab.specs.Slab.{Slab, get}
-use Rattle.xf_doc.specs.declared.content.Node.{Node}
-use Rattle.xf_doc.specs.Forest.{content_at, own_text}
-use Rattle.xf_doc.specs.Order.{is_before, rank_of}
-use Rattle.xf_doc.specs.Visit.{visits, numbers, last_of, top_of}
-use Rattle.xf_doc.specs.StringValue.{has_character, pieces, pieces_in, string_value_within, within}
-use Rattle.xf_doc.specs.Axis.{before}
-use Rattle.xf_rows.specs.declared.rows.Row.{Row}
-use Rattle.xf_rows.specs.Rows.{no_row, deeper, tree_of}
-use Rattle.xf_slots.specs.Slot.{Slot}
-use Rattle.xf_slots.specs.Keys.{content_in, number_in}
-use Rattle.xf_walks.specs.Nodes.{node_of, times, StandsAt, text_of}
-use Rattle.xf_walks.specs.Reads.{pieces_at, last_row}
-use Rattle.xf_walks.specs.Walks.{ancestor_rows}
-use Rattle.xf_walks.proofs.NodeLemmas.{parted-before, parted-node}
-use Rattle.xf_walks.proofs.PlaceLemmas.{stands, stands-after, below-is, tree-size, live-at}
-use Rattle.xf_walks.proofs.StackLemmas.{parted-visit, parted-ancestors}
-use Rattle.xf_walks.proofs.PieceLemmas.{filled, own, parted-filled}
-use Rattle.xf_walks.proofs.FoundLemmas.{visits-before}
-use Rattle.xf_walks.proofs.ReadLemmas.{lived, length-visits}
-use Rattle.xf_walks.proofs.TextLemmas.{text-means}
-use Rattle.xf_walks.proofs.SiblingLemmas.{above-rows}
-use Rattle.xf_walks.proofs.TopLemmas.{last-number}
+use Rattle.xf_def_forest.specs.declared.content.Node.{Node}
+use Rattle.xf_def_forest.specs.Forest.{content_at, own_text}
+use Rattle.xf_def_forest.specs.Order.{is_before, rank_of}
+use Rattle.xf_def_forest.specs.Visit.{visits, numbers, last_of, top_of}
+use Rattle.xf_def_forest.specs.StringValue.{has_character, pieces, pieces_in, string_value_within, within}
+use Rattle.xf_def_forest.specs.Axis.{before}
+use Rattle.xf_tree_rows.specs.declared.rows.Row.{Row}
+use Rattle.xf_tree_rows.specs.Rows.{no_row, deeper, tree_of}
+use Rattle.xf_tree_contents.specs.Slot.{Slot}
+use Rattle.xf_tree_contents.specs.Keys.{content_in, number_in}
+use Rattle.xf_tree_walks.specs.Nodes.{node_of, times, StandsAt, text_of}
+use Rattle.xf_tree_walks.specs.Reads.{pieces_at, last_row}
+use Rattle.xf_tree_walks.specs.Walks.{ancestor_rows}
+use Rattle.xf_tree_walks.proofs.NodeLemmas.{parted-before, parted-node}
+use Rattle.xf_tree_walks.proofs.PlaceLemmas.{stands, stands-after, below-is, tree-size, live-at}
+use Rattle.xf_tree_walks.proofs.StackLemmas.{parted-visit, parted-ancestors}
+use Rattle.xf_tree_walks.proofs.PieceLemmas.{filled, own, parted-filled}
+use Rattle.xf_tree_walks.proofs.FoundLemmas.{visits-before}
+use Rattle.xf_tree_walks.proofs.ReadLemmas.{lived, length-visits}
+use Rattle.xf_tree_walks.proofs.TextLemmas.{text-means}
+use Rattle.xf_tree_walks.proofs.SiblingLemmas.{above-rows}
+use Rattle.xf_tree_walks.proofs.TopLemmas.{last-number}
 use Rattle.xf_tree.specs.State.{IsSound}
 
 pub one_of : (s : Slab Slot) (rows : List Row) (kept : List ℕ) (next n : ℕ) → IsSound s rows kept next → times n (map (node_of s) rows) ≤ 1

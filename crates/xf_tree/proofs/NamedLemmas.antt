@@ -5,20 +5,20 @@ use Rattle.std.proofs.lemmas.Bool.{cases_lt}
 use Rattle.std.proofs.lemmas.Bool.Decides.{nat_tests}
 use Rattle.std.proofs.lemmas.List.{take-append-drop, map-append, get_or-take, get_or-drop}
 use Rattle.slab.specs.Slab.{Slab, get}
-use Rattle.xf_doc.specs.declared.content.Node.{Node}
-use Rattle.xf_doc.specs.Forest.{has_number, node_at, from_node, first_tree, kind_of, kind_at, tree_of as tree_of_node}
-use Rattle.xf_rows.specs.declared.rows.Row.{Row}
-use Rattle.xf_rows.specs.Rows.{tree_of, no_row}
-use Rattle.xf_rows.proofs.CutLemmas.{tree-is-front}
-use Rattle.xf_rows.proofs.RowLemmas.{split-at}
-use Rattle.xf_rows.proofs.SizedLemmas.{lt-true, lt-false}
-use Rattle.xf_slots.specs.Slot.{Slot}
-use Rattle.xf_slots.specs.Keys.{number_in}
-use Rattle.xf_slots.proofs.AlikeLemmas.{eq-true}
-use Rattle.xf_walks.specs.Nodes.{node_of, times, StandsAt}
-use Rattle.xf_walks.proofs.NodeLemmas.{parted-from, times-append, times-absent, absent-times}
-use Rattle.xf_walks.proofs.PlaceLemmas.{stands, stands-live, below-is}
-use Rattle.xf_walks.proofs.StackLemmas.{absent-parts}
+use Rattle.xf_def_forest.specs.declared.content.Node.{Node}
+use Rattle.xf_def_forest.specs.Forest.{has_number, node_at, from_node, first_tree, kind_of, kind_at, tree_of as tree_of_node}
+use Rattle.xf_tree_rows.specs.declared.rows.Row.{Row}
+use Rattle.xf_tree_rows.specs.Rows.{tree_of, no_row}
+use Rattle.xf_tree_rows.proofs.CutLemmas.{tree-is-front}
+use Rattle.xf_tree_rows.proofs.RowLemmas.{split-at}
+use Rattle.xf_tree_rows.proofs.SizedLemmas.{lt-true, lt-false}
+use Rattle.xf_tree_contents.specs.Slot.{Slot}
+use Rattle.xf_tree_contents.specs.Keys.{number_in}
+use Rattle.xf_tree_contents.proofs.AlikeLemmas.{eq-true}
+use Rattle.xf_tree_walks.specs.Nodes.{node_of, times, StandsAt}
+use Rattle.xf_tree_walks.proofs.NodeLemmas.{parted-from, times-append, times-absent, absent-times}
+use Rattle.xf_tree_walks.proofs.PlaceLemmas.{stands, stands-live, below-is}
+use Rattle.xf_tree_walks.proofs.StackLemmas.{absent-parts}
 use Rattle.xf_tree.specs.State.{IsSound}
 use Rattle.xf_tree.proofs.MeansLemmas.{one_of}
 

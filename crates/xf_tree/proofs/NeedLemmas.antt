@@ -2,15 +2,15 @@
 use Rattle.std.proofs.Common.{◌≡◌, ℕ, ◌==◌, ◌&&◌, ◌⊎◌, Bool, true, false, List, [], ◌∷◌, Option, Some, None, option_map, inl, inr, refl, sym, ap, ◌∙◌}
 use Rattle.std.proofs.lemmas.Bool.{cases_Bool, false≢true}
 use Rattle.std.specs.List.{list_any}
-use Rattle.xf_doc.specs.declared.content.Node.{Node}
-use Rattle.xf_doc.specs.declared.content.Content.{Content}
-use Rattle.xf_doc.specs.declared.content.Content.TheVariants.{Root, Element, Attribute, Text}
-use Rattle.xf_doc.specs.declared.content.Kind.{Kind}
-use Rattle.xf_doc.specs.declared.content.Kind.TheVariants as kind
-use Rattle.xf_doc.specs.Forest.{Forest, is_root, is_attribute, kind_of, kind_at, node_at, has_number}
-use Rattle.xf_doc.specs.Needs.{MayAttach, MayStand, MayPlace, in_element, in_root, as_attribute, goes_below}
-use Rattle.xf_walks.specs.Leaves.{is_leaf}
-use Rattle.xf_walks.proofs.StackLemmas.{absent-parts}
+use Rattle.xf_def_forest.specs.declared.content.Node.{Node}
+use Rattle.xf_def_forest.specs.declared.content.Content.{Content}
+use Rattle.xf_def_forest.specs.declared.content.Content.TheVariants.{Root, Element, Attribute, Text}
+use Rattle.xf_def_forest.specs.declared.content.Kind.{Kind}
+use Rattle.xf_def_forest.specs.declared.content.Kind.TheVariants as kind
+use Rattle.xf_def_forest.specs.Forest.{Forest, is_root, is_attribute, kind_of, kind_at, node_at, has_number}
+use Rattle.xf_def_forest.specs.Needs.{MayAttach, MayStand, MayPlace, in_element, in_root, as_attribute, goes_below}
+use Rattle.xf_tree_walks.specs.Leaves.{is_leaf}
+use Rattle.xf_tree_walks.proofs.StackLemmas.{absent-parts}
 
 -- what is said of a node that is not there
 pub none-named : (n : ℕ) (p : Node → Bool) (nodes : List Node) → has_number n nodes ≡ false → list_any (λ (y : Node). (y.number == n) && p y) nodes ≡ true → ⊥

@@ -1,15 +1,15 @@
 -- New nodes with the next numbers.
 use Rattle.std.proofs.Common.{◌≡◌, ℕ, suc, ◌+◌, ◌<◌, ◌≤◌, not, true, false, cond, List, [], ◌∷◌, length, refl, sym, ap, ◌∙◌, inl, inr, arith}
 use Rattle.std.proofs.lemmas.List.Sums.{sum_by-cons}
-use Rattle.xf_doc.specs.declared.content.Content.{Content}
-use Rattle.xf_doc.specs.Limits.{node_count, all_size, size_of}
-use Rattle.xf_doc.specs.Plant.{numbered_from}
-use Rattle.xf_slots.proofs.AlikeLemmas.{eq-true}
-use Rattle.xf_slots.proofs.FreeLemmas.{same-key}
-use Rattle.xf_walks.specs.Nodes.{times, AllPlain, AllTops}
-use Rattle.xf_walks.proofs.NodeLemmas.{eq-false}
-use Rattle.xf_walks.proofs.CountLemmas.{nodes-cons, sizes-cons}
-use Rattle.xf_changes.specs.Trees.{size_of_all}
+use Rattle.xf_def_forest.specs.declared.content.Content.{Content}
+use Rattle.xf_def_forest.specs.Limits.{node_count, all_size, size_of}
+use Rattle.xf_def_forest.specs.Plant.{numbered_from}
+use Rattle.xf_tree_contents.proofs.AlikeLemmas.{eq-true}
+use Rattle.xf_tree_contents.proofs.FreeLemmas.{same-key}
+use Rattle.xf_tree_walks.specs.Nodes.{times, AllPlain, AllTops}
+use Rattle.xf_tree_walks.proofs.NodeLemmas.{eq-false}
+use Rattle.xf_tree_walks.proofs.CountLemmas.{nodes-cons, sizes-cons}
+use Rattle.xf_tree_changes.specs.Trees.{size_of_all}
 
 pub low-times : (n next : ℕ) (cs : List (ℕ × Content)) → n < next → times n (numbered_from next cs) ≡ 0
 low-times n next [] h = refl

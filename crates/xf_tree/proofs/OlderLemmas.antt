@@ -3,19 +3,19 @@ use Rattle.std.proofs.Common.{◌≡◌, ℕ, suc, ◌+◌, ◌≤◌, not, Bool
 use Rattle.std.specs.Prelude.{filter}
 use Rattle.std.proofs.lemmas.Bool.{cases_Bool, cases_lt, true≢false, false≢true}
 use Rattle.slab.specs.Slab.{Slab, get}
-use Rattle.xf_doc.specs.declared.content.Node.{Node}
-use Rattle.xf_rows.specs.declared.rows.Row.{Row}
-use Rattle.xf_rows.specs.Rows.{Sized, deeper, AreSteps, depths}
-use Rattle.xf_rows.proofs.SizedLemmas.{lt-true, lt-false, deeper-less}
-use Rattle.xf_slots.specs.Slot.{Slot}
-use Rattle.xf_slots.specs.Keys.{number_in, content_in}
-use Rattle.xf_walks.specs.Leaves.{parts_in, NotDeeper, AreLeaves}
-use Rattle.xf_walks.specs.First.{attribute_depth, AreFirst}
-use Rattle.xf_walks.specs.Nodes.{node_of, times, AllLive, AllTops}
-use Rattle.xf_walks.proofs.NodeLemmas.{eq-false}
-use Rattle.xf_walks.proofs.LeafLemmas.{less-deeper, first-not_deeper}
-use Rattle.xf_changes.specs.Older.{is_older}
-use Rattle.xf_changes.proofs.OlderLemmas.{olds, WholeRows}
+use Rattle.xf_def_forest.specs.declared.content.Node.{Node}
+use Rattle.xf_tree_rows.specs.declared.rows.Row.{Row}
+use Rattle.xf_tree_rows.specs.Rows.{Sized, deeper, AreSteps, depths}
+use Rattle.xf_tree_rows.proofs.SizedLemmas.{lt-true, lt-false, deeper-less}
+use Rattle.xf_tree_contents.specs.Slot.{Slot}
+use Rattle.xf_tree_contents.specs.Keys.{number_in, content_in}
+use Rattle.xf_tree_walks.specs.Leaves.{parts_in, NotDeeper, AreLeaves}
+use Rattle.xf_tree_walks.specs.First.{attribute_depth, AreFirst}
+use Rattle.xf_tree_walks.specs.Nodes.{node_of, times, AllLive, AllTops}
+use Rattle.xf_tree_walks.proofs.NodeLemmas.{eq-false}
+use Rattle.xf_tree_walks.proofs.LeafLemmas.{less-deeper, first-not_deeper}
+use Rattle.xf_tree_changes.specs.Older.{is_older}
+use Rattle.xf_tree_changes.proofs.OlderLemmas.{olds, WholeRows}
 use Rattle.xf_tree.specs.State.{IsSound}
 use Rattle.xf_tree.proofs.DropLemmas.{IsShaped}
 

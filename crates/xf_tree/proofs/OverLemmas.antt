@@ -3,39 +3,39 @@ use Rattle.std.proofs.Common.{◌≡◌, ℕ, suc, ◌+◌, ◌<◌, ◌≤◌, 
 use Rattle.std.proofs.lemmas.List.{take-append-drop, map-append, length-map}
 use Rattle.std.proofs.lemmas.Bool.{cases_Bool, true≢false, false≢true}
 use Rattle.slab.specs.Slab.{Slab, get}
-use Rattle.xf_doc.specs.declared.content.Node.{Node}
-use Rattle.xf_doc.specs.declared.content.Content.{Content}
-use Rattle.xf_doc.specs.declared.content.Content.TheVariants.{Root, Element, Attribute, Text}
-use Rattle.xf_doc.specs.Forest.{Forest, first_tree, tree_of, is_root, is_element, is_attribute}
-use Rattle.xf_doc.specs.Changes.{shifted, moved_to, without_tree, in_instances, in_detached, with_root, is_detached_top}
-use Rattle.xf_doc.specs.Limits.{node_count, all_size}
-use Rattle.xf_rows.specs.declared.rows.Row.{Row}
-use Rattle.xf_rows.specs.Rows.{Sized, deeper, deepened, tree_of as row_tree, after_tree, rest_of, AreSteps, depths, no_row}
-use Rattle.xf_rows.proofs.SizedLemmas.{lt-true, lt-false, sized-append, sized-front}
-use Rattle.xf_rows.proofs.CutLemmas.{all-deep-zero, tree-parts}
-use Rattle.xf_rows.proofs.PasteLemmas.{deepened-sized}
-use Rattle.xf_rows.proofs.RowLemmas.{split-at}
-use Rattle.xf_rows.proofs.ParentLemmas.{deep-prefix}
-use Rattle.xf_rows.proofs.RootedLemmas.{first-zero, rest-sized}
-use Rattle.xf_slots.specs.Slot.{Slot}
-use Rattle.xf_slots.specs.Keys.{number_in, content_in, kept_times}
-use Rattle.xf_slots.proofs.AlikeLemmas.{eq-true}
-use Rattle.xf_slots.proofs.FreeLemmas.{same-key}
-use Rattle.xf_walks.specs.Leaves.{parts_in, AreLeaves}
-use Rattle.xf_walks.specs.First.{AreFirst}
-use Rattle.xf_walks.specs.Nodes.{node_of, times, AllLive, AllTops, StandsAt}
-use Rattle.xf_walks.proofs.NodeLemmas.{parted-without, parted-from, times-append, eq-false}
-use Rattle.xf_walks.proofs.PlaceLemmas.{stands, below-is, past-is}
-use Rattle.xf_walks.proofs.CountLemmas.{nodes-append, sizes-append, count-alike, size-alike}
-use Rattle.xf_walks.proofs.StepLemmas.{most_after, steps-append, steps-parts, steps-raised}
-use Rattle.xf_walks.proofs.LeafLemmas.{leaves-top, leaves-parts, leaves-shifted, parts-append, first-not_deeper}
-use Rattle.xf_walks.proofs.FirstLemmas.{depth_behind, first-append, first-parts, first-top}
-use Rattle.xf_walks.proofs.RootLemmas.{tops-parts}
-use Rattle.xf_changes.specs.Trees.{KeepsLive, IsOver}
-use Rattle.xf_changes.proofs.FirstRowLemmas.{without-first}
-use Rattle.xf_changes.proofs.MapLemmas.{live-append, whole-map}
-use Rattle.xf_changes.proofs.RestLemmas.{without-leaves}
-use Rattle.xf_changes.proofs.PushLemmas.{kept-nodes, kept-live, insert-keeps, small-insert}
+use Rattle.xf_def_forest.specs.declared.content.Node.{Node}
+use Rattle.xf_def_forest.specs.declared.content.Content.{Content}
+use Rattle.xf_def_forest.specs.declared.content.Content.TheVariants.{Root, Element, Attribute, Text}
+use Rattle.xf_def_forest.specs.Forest.{Forest, first_tree, tree_of, is_root, is_element, is_attribute}
+use Rattle.xf_def_forest.specs.Changes.{shifted, moved_to, without_tree, in_instances, in_detached, with_root, is_detached_top}
+use Rattle.xf_def_forest.specs.Limits.{node_count, all_size}
+use Rattle.xf_tree_rows.specs.declared.rows.Row.{Row}
+use Rattle.xf_tree_rows.specs.Rows.{Sized, deeper, deepened, tree_of as row_tree, after_tree, rest_of, AreSteps, depths, no_row}
+use Rattle.xf_tree_rows.proofs.SizedLemmas.{lt-true, lt-false, sized-append, sized-front}
+use Rattle.xf_tree_rows.proofs.CutLemmas.{all-deep-zero, tree-parts}
+use Rattle.xf_tree_rows.proofs.PasteLemmas.{deepened-sized}
+use Rattle.xf_tree_rows.proofs.RowLemmas.{split-at}
+use Rattle.xf_tree_rows.proofs.ParentLemmas.{deep-prefix}
+use Rattle.xf_tree_rows.proofs.RootedLemmas.{first-zero, rest-sized}
+use Rattle.xf_tree_contents.specs.Slot.{Slot}
+use Rattle.xf_tree_contents.specs.Keys.{number_in, content_in, kept_times}
+use Rattle.xf_tree_contents.proofs.AlikeLemmas.{eq-true}
+use Rattle.xf_tree_contents.proofs.FreeLemmas.{same-key}
+use Rattle.xf_tree_walks.specs.Leaves.{parts_in, AreLeaves}
+use Rattle.xf_tree_walks.specs.First.{AreFirst}
+use Rattle.xf_tree_walks.specs.Nodes.{node_of, times, AllLive, AllTops, StandsAt}
+use Rattle.xf_tree_walks.proofs.NodeLemmas.{parted-without, parted-from, times-append, eq-false}
+use Rattle.xf_tree_walks.proofs.PlaceLemmas.{stands, below-is, past-is}
+use Rattle.xf_tree_walks.proofs.CountLemmas.{nodes-append, sizes-append, count-alike, size-alike}
+use Rattle.xf_tree_walks.proofs.StepLemmas.{most_after, steps-append, steps-parts, steps-raised}
+use Rattle.xf_tree_walks.proofs.LeafLemmas.{leaves-top, leaves-parts, leaves-shifted, parts-append, first-not_deeper}
+use Rattle.xf_tree_walks.proofs.FirstLemmas.{depth_behind, first-append, first-parts, first-top}
+use Rattle.xf_tree_walks.proofs.RootLemmas.{tops-parts}
+use Rattle.xf_tree_changes.specs.Trees.{KeepsLive, IsOver}
+use Rattle.xf_tree_changes.proofs.FirstRowLemmas.{without-first}
+use Rattle.xf_tree_changes.proofs.MapLemmas.{live-append, whole-map}
+use Rattle.xf_tree_changes.proofs.RestLemmas.{without-leaves}
+use Rattle.xf_tree_changes.proofs.PushLemmas.{kept-nodes, kept-live, insert-keeps, small-insert}
 use Rattle.xf_tree.specs.State.{IsSound, IsState, keeping_of}
 use Rattle.xf_tree.proofs.DeepenLemmas.{lowered, live-deepened, times-shifted, depths-deepened, no-roots}
 use Rattle.xf_tree.proofs.MeansLemmas.{one_of}

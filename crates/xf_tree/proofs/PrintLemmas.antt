@@ -3,23 +3,23 @@ use Rattle.std.proofs.Common.{◌≡◌, ℕ, ◌+◌, ◌-◌, ◌≤◌, ◌==
 use Rattle.std.specs.Prelude.{◌⊎◌}
 use Rattle.std.proofs.lemmas.Bool.{cases_Bool, true≢false}
 use Rattle.slab.specs.Slab.{Slab}
-use Rattle.xf_doc.specs.declared.content.Node.{Node}
-use Rattle.xf_doc.specs.declared.content.Content.{Content}
-use Rattle.xf_doc.specs.declared.content.Content.TheVariants.{Root, Element, Attribute, Text}
-use Rattle.xf_doc.specs.declared.content.Kind.{Kind}
-use Rattle.xf_doc.specs.declared.content.Kind.TheVariants as kind
-use Rattle.xf_doc.specs.Texts.{Keeping}
-use Rattle.xf_doc.specs.Forest.{kind_of, kind_at, has_number, first_tree, below, tree_of}
-use Rattle.xf_doc.specs.Literal.{printed}
-use Rattle.xf_rows.specs.declared.rows.Row.{Row}
-use Rattle.xf_rows.specs.Rows.{tree_of as row_tree, no_row}
-use Rattle.xf_rows.proofs.CutLemmas.{tree-is-front}
-use Rattle.xf_rows.proofs.RowLemmas.{split-at}
-use Rattle.xf_slots.specs.Slot.{Slot}
-use Rattle.xf_walks.specs.Nodes.{node_of, times, StandsAt}
-use Rattle.xf_walks.proofs.NodeLemmas.{parted-from}
-use Rattle.xf_walks.proofs.PlaceLemmas.{stands, below-is}
-use Rattle.xf_literal.specs.Print.{is_printable}
+use Rattle.xf_def_forest.specs.declared.content.Node.{Node}
+use Rattle.xf_def_forest.specs.declared.content.Content.{Content}
+use Rattle.xf_def_forest.specs.declared.content.Content.TheVariants.{Root, Element, Attribute, Text}
+use Rattle.xf_def_forest.specs.declared.content.Kind.{Kind}
+use Rattle.xf_def_forest.specs.declared.content.Kind.TheVariants as kind
+use Rattle.xf_def_forest.specs.Texts.{Keeping}
+use Rattle.xf_def_forest.specs.Forest.{kind_of, kind_at, has_number, first_tree, below, tree_of}
+use Rattle.xf_def_forest.specs.Literal.{printed}
+use Rattle.xf_tree_rows.specs.declared.rows.Row.{Row}
+use Rattle.xf_tree_rows.specs.Rows.{tree_of as row_tree, no_row}
+use Rattle.xf_tree_rows.proofs.CutLemmas.{tree-is-front}
+use Rattle.xf_tree_rows.proofs.RowLemmas.{split-at}
+use Rattle.xf_tree_contents.specs.Slot.{Slot}
+use Rattle.xf_tree_walks.specs.Nodes.{node_of, times, StandsAt}
+use Rattle.xf_tree_walks.proofs.NodeLemmas.{parted-from}
+use Rattle.xf_tree_walks.proofs.PlaceLemmas.{stands, below-is}
+use Rattle.xf_tree_literals.specs.Print.{is_printable}
 use Rattle.xf_tree.specs.State.{keeping_of, IsSound}
 use Rattle.xf_tree.proofs.MeansLemmas.{one_of}
 

@@ -5,26 +5,26 @@ use Rattle.std.specs.List.{list_any}
 use Rattle.std.proofs.lemmas.Bool.{cases_Bool, false≢true}
 use Rattle.std.proofs.lemmas.List.{length-map, get_or-map}
 use Rattle.slab.specs.Slab.{Slab, get, Updates}
-use Rattle.xf_doc.specs.declared.content.Node.{Node}
-use Rattle.xf_doc.specs.declared.content.Content.{Content}
-use Rattle.xf_doc.specs.declared.content.Content.TheVariants.{Root, Element, Attribute, Text}
-use Rattle.xf_doc.specs.declared.content.Kind.TheVariants as kind
-use Rattle.xf_doc.specs.Forest.{is_root, is_element, is_attribute, is_text, kind_at}
-use Rattle.xf_doc.specs.Visit.{visits, numbers}
-use Rattle.xf_doc.specs.Shape.{has_elements}
-use Rattle.xf_doc.specs.Limits.{limits, unless, node_count, all_size, passed_by_text}
-use Rattle.xf_doc.specs.Texts.{Keeping, KeptText, at_depth, one_text, with_texts, kept_from, is_attribute_at, with_text, text_set, element_texts}
-use Rattle.xf_rows.specs.declared.rows.Row.{Row}
-use Rattle.xf_rows.specs.Rows.{AreSteps, depths, no_row}
-use Rattle.xf_slots.specs.Slot.{Slot}
-use Rattle.xf_slots.specs.Keys.{kept_of, number_in, content_in, kept_times}
-use Rattle.xf_slots.proofs.AlikeLemmas.{eq-true}
-use Rattle.xf_slots.proofs.FreeLemmas.{same-key}
-use Rattle.xf_walks.specs.Nodes.{node_of, times, AllLive, StandsAt}
-use Rattle.xf_walks.proofs.NodeLemmas.{eq-false}
-use Rattle.xf_walks.proofs.CountLemmas.{nodes-append, sizes-append, nodes-cons, sizes-cons, count-alike, size-alike}
-use Rattle.xf_walks.proofs.StepLemmas.{depth-bound}
-use Rattle.xf_changes.specs.Texts.{passed_by, text_slot, text_count, has_key, attributes, children, keys_of, numbers_at, depth_at, run_of}
+use Rattle.xf_def_forest.specs.declared.content.Node.{Node}
+use Rattle.xf_def_forest.specs.declared.content.Content.{Content}
+use Rattle.xf_def_forest.specs.declared.content.Content.TheVariants.{Root, Element, Attribute, Text}
+use Rattle.xf_def_forest.specs.declared.content.Kind.TheVariants as kind
+use Rattle.xf_def_forest.specs.Forest.{is_root, is_element, is_attribute, is_text, kind_at}
+use Rattle.xf_def_forest.specs.Visit.{visits, numbers}
+use Rattle.xf_def_forest.specs.Shape.{has_elements}
+use Rattle.xf_def_forest.specs.Limits.{limits, unless, node_count, all_size, passed_by_text}
+use Rattle.xf_def_forest.specs.Texts.{Keeping, KeptText, at_depth, one_text, with_texts, kept_from, is_attribute_at, with_text, text_set, element_texts}
+use Rattle.xf_tree_rows.specs.declared.rows.Row.{Row}
+use Rattle.xf_tree_rows.specs.Rows.{AreSteps, depths, no_row}
+use Rattle.xf_tree_contents.specs.Slot.{Slot}
+use Rattle.xf_tree_contents.specs.Keys.{kept_of, number_in, content_in, kept_times}
+use Rattle.xf_tree_contents.proofs.AlikeLemmas.{eq-true}
+use Rattle.xf_tree_contents.proofs.FreeLemmas.{same-key}
+use Rattle.xf_tree_walks.specs.Nodes.{node_of, times, AllLive, StandsAt}
+use Rattle.xf_tree_walks.proofs.NodeLemmas.{eq-false}
+use Rattle.xf_tree_walks.proofs.CountLemmas.{nodes-append, sizes-append, nodes-cons, sizes-cons, count-alike, size-alike}
+use Rattle.xf_tree_walks.proofs.StepLemmas.{depth-bound}
+use Rattle.xf_tree_changes.specs.Texts.{passed_by, text_slot, text_count, has_key, attributes, children, keys_of, numbers_at, depth_at, run_of}
 use Rattle.xf_tree.specs.State.{IsState, keeping_of}
 use Rattle.xf_tree.specs.Settled.{text_written}
 use Rattle.xf_tree.proofs.ValueLemmas.{attribute-at}

@@ -2,18 +2,18 @@
 use Rattle.std.proofs.Common.{◌≡◌, ℕ, true, false, List, [], map, length, take, drop, get_or, refl, ap, ◌∙◌}
 use Rattle.std.specs.Str.{bytes_eq}
 use Rattle.slab.specs.Slab.{Slab, get}
-use Rattle.xf_doc.specs.declared.content.Node.{Node}
-use Rattle.xf_doc.specs.Forest.{is_attribute, own_text, has_number, first_tree, tree_of as tree_of_node}
-use Rattle.xf_doc.specs.Shape.{as_texts}
-use Rattle.xf_doc.specs.Texts.{texts_in, value_in}
-use Rattle.xf_doc.specs.Settle.{are_texts, has_text}
-use Rattle.xf_rows.specs.declared.rows.Row.{Row}
-use Rattle.xf_rows.specs.Rows.{tree_of, no_row}
-use Rattle.xf_slots.specs.Slot.{Slot}
-use Rattle.xf_slots.specs.Keys.{content_in}
-use Rattle.xf_walks.specs.Nodes.{node_of, StandsAt}
-use Rattle.xf_walks.proofs.NodeLemmas.{parted-from}
-use Rattle.xf_walks.proofs.PlaceLemmas.{stands}
+use Rattle.xf_def_forest.specs.declared.content.Node.{Node}
+use Rattle.xf_def_forest.specs.Forest.{is_attribute, own_text, has_number, first_tree, tree_of as tree_of_node}
+use Rattle.xf_def_forest.specs.Shape.{as_texts}
+use Rattle.xf_def_forest.specs.Texts.{texts_in, value_in}
+use Rattle.xf_def_forest.specs.Settle.{are_texts, has_text}
+use Rattle.xf_tree_rows.specs.declared.rows.Row.{Row}
+use Rattle.xf_tree_rows.specs.Rows.{tree_of, no_row}
+use Rattle.xf_tree_contents.specs.Slot.{Slot}
+use Rattle.xf_tree_contents.specs.Keys.{content_in}
+use Rattle.xf_tree_walks.specs.Nodes.{node_of, StandsAt}
+use Rattle.xf_tree_walks.proofs.NodeLemmas.{parted-from}
+use Rattle.xf_tree_walks.proofs.PlaceLemmas.{stands}
 use Rattle.xf_tree.specs.State.{IsSound}
 use Rattle.xf_tree.proofs.NamedLemmas.{named-at, named-none, from-none, tree-means}
 use Rattle.xf_tree.proofs.MeansLemmas.{one_of}

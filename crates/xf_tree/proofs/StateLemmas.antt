@@ -2,21 +2,21 @@
 use Rattle.std.proofs.Common.{◌≡◌, ℕ, ◌<◌, List, ◌++◌, map, length, take, drop, reverse, length-append, subst, append_assoc, refl, sym, ap, ◌∙◌, arith, get_or}
 use Rattle.std.proofs.lemmas.List.{take-append-drop, length-map}
 use Rattle.slab.specs.Slab.{Slab}
-use Rattle.xf_doc.specs.Changes.{shifted}
-use Rattle.xf_rows.specs.declared.rows.Row.{Row}
-use Rattle.xf_rows.specs.Rows.{Sized, raised, tree_of, after_tree, top_depth, IsCut, no_row}
-use Rattle.xf_rows.proofs.CutLemmas.{tree-parts}
-use Rattle.xf_rows.proofs.RowLemmas.{split-at}
-use Rattle.xf_slots.specs.Slot.{Slot}
-use Rattle.xf_walks.specs.Leaves.{parts_in, NotDeeper, AreLeaves}
-use Rattle.xf_walks.specs.First.{AreFirst}
-use Rattle.xf_walks.specs.Nodes.{node_of, AllLive, AllTops}
-use Rattle.xf_walks.proofs.FirstLemmas.{depth_behind, first-append, first-anywhere}
-use Rattle.xf_walks.proofs.LeafLemmas.{leaves-top, leaves-shifted, parts-append}
-use Rattle.xf_walks.proofs.RootLemmas.{tops-parts}
-use Rattle.xf_changes.proofs.FirstRowLemmas.{without-first}
-use Rattle.xf_changes.proofs.MapLemmas.{whole-map, live-append}
-use Rattle.xf_changes.proofs.RestLemmas.{without-leaves}
+use Rattle.xf_def_forest.specs.Changes.{shifted}
+use Rattle.xf_tree_rows.specs.declared.rows.Row.{Row}
+use Rattle.xf_tree_rows.specs.Rows.{Sized, raised, tree_of, after_tree, top_depth, IsCut, no_row}
+use Rattle.xf_tree_rows.proofs.CutLemmas.{tree-parts}
+use Rattle.xf_tree_rows.proofs.RowLemmas.{split-at}
+use Rattle.xf_tree_contents.specs.Slot.{Slot}
+use Rattle.xf_tree_walks.specs.Leaves.{parts_in, NotDeeper, AreLeaves}
+use Rattle.xf_tree_walks.specs.First.{AreFirst}
+use Rattle.xf_tree_walks.specs.Nodes.{node_of, AllLive, AllTops}
+use Rattle.xf_tree_walks.proofs.FirstLemmas.{depth_behind, first-append, first-anywhere}
+use Rattle.xf_tree_walks.proofs.LeafLemmas.{leaves-top, leaves-shifted, parts-append}
+use Rattle.xf_tree_walks.proofs.RootLemmas.{tops-parts}
+use Rattle.xf_tree_changes.proofs.FirstRowLemmas.{without-first}
+use Rattle.xf_tree_changes.proofs.MapLemmas.{whole-map, live-append}
+use Rattle.xf_tree_changes.proofs.RestLemmas.{without-leaves}
 use Rattle.xf_tree.specs.State.{IsSound, IsState}
 use Rattle.xf_tree.proofs.FirstRowLemmas.{tree-first}
 use Rattle.xf_tree.proofs.ForestLemmas.{cut-map, node-ignores, depth-ignores, map-lifted, cut-times, cut-counted, cut-stepped, live-parts, live-shrunk, live-reverse, live-raised, tops-append, tops-lifted}

@@ -4,31 +4,31 @@ use Rattle.std.specs.Prelude.{filter}
 use Rattle.std.proofs.lemmas.Bool.{false≢true}
 use Rattle.std.proofs.lemmas.List.{map-append, take-append-drop, take_more, length-map}
 use Rattle.slab.specs.Slab.{Slab, get}
-use Rattle.xf_doc.specs.declared.node.NodeId.{NodeId}
-use Rattle.xf_doc.specs.declared.content.Node.{Node}
-use Rattle.xf_doc.specs.declared.content.Content.{Content}
-use Rattle.xf_doc.specs.declared.content.Kind.TheVariants as kind
-use Rattle.xf_doc.specs.Forest.{is_attribute, kind_at, past}
-use Rattle.xf_doc.specs.Visit.{visits}
-use Rattle.xf_doc.specs.Shape.{has_elements}
-use Rattle.xf_doc.specs.Texts.{at_depth, with_content, with_texts}
-use Rattle.xf_rows.specs.declared.rows.Row.{Row}
-use Rattle.xf_rows.specs.Rows.{deeper, AreSteps, depths, no_row}
-use Rattle.xf_rows.proofs.CutLemmas.{stops-after}
-use Rattle.xf_rows.proofs.RowLemmas.{split-at}
-use Rattle.xf_slots.specs.Slot.{Slot}
-use Rattle.xf_slots.specs.Keys.{content_in}
-use Rattle.xf_walks.specs.Leaves.{parts_in, AreLeaves}
-use Rattle.xf_walks.specs.First.{AreFirst}
-use Rattle.xf_walks.specs.Nodes.{node_of, AllLive, AllTops, StandsAt}
-use Rattle.xf_walks.proofs.StepLemmas.{most_after, steps-append, steps-parts}
-use Rattle.xf_walks.proofs.LeafLemmas.{leaves-parts, leaves-other, parts-append, first-not_deeper}
-use Rattle.xf_walks.proofs.RootLemmas.{tops-parts}
-use Rattle.xf_walks.proofs.PlaceLemmas.{below-is, past-is}
-use Rattle.xf_changes.specs.Trees.{unsized}
-use Rattle.xf_changes.specs.Texts.{attributes, children, is_attribute_row, text_row, AreAt, depth_at, run_of, after_run, with_text_rows}
-use Rattle.xf_changes.proofs.MapLemmas.{live-append}
-use Rattle.xf_changes.proofs.SameLemmas.{SameAt, nodes-same}
+use Rattle.xf_def_forest.specs.declared.node.NodeId.{NodeId}
+use Rattle.xf_def_forest.specs.declared.content.Node.{Node}
+use Rattle.xf_def_forest.specs.declared.content.Content.{Content}
+use Rattle.xf_def_forest.specs.declared.content.Kind.TheVariants as kind
+use Rattle.xf_def_forest.specs.Forest.{is_attribute, kind_at, past}
+use Rattle.xf_def_forest.specs.Visit.{visits}
+use Rattle.xf_def_forest.specs.Shape.{has_elements}
+use Rattle.xf_def_forest.specs.Texts.{at_depth, with_content, with_texts}
+use Rattle.xf_tree_rows.specs.declared.rows.Row.{Row}
+use Rattle.xf_tree_rows.specs.Rows.{deeper, AreSteps, depths, no_row}
+use Rattle.xf_tree_rows.proofs.CutLemmas.{stops-after}
+use Rattle.xf_tree_rows.proofs.RowLemmas.{split-at}
+use Rattle.xf_tree_contents.specs.Slot.{Slot}
+use Rattle.xf_tree_contents.specs.Keys.{content_in}
+use Rattle.xf_tree_walks.specs.Leaves.{parts_in, AreLeaves}
+use Rattle.xf_tree_walks.specs.First.{AreFirst}
+use Rattle.xf_tree_walks.specs.Nodes.{node_of, AllLive, AllTops, StandsAt}
+use Rattle.xf_tree_walks.proofs.StepLemmas.{most_after, steps-append, steps-parts}
+use Rattle.xf_tree_walks.proofs.LeafLemmas.{leaves-parts, leaves-other, parts-append, first-not_deeper}
+use Rattle.xf_tree_walks.proofs.RootLemmas.{tops-parts}
+use Rattle.xf_tree_walks.proofs.PlaceLemmas.{below-is, past-is}
+use Rattle.xf_tree_changes.specs.Trees.{unsized}
+use Rattle.xf_tree_changes.specs.Texts.{attributes, children, is_attribute_row, text_row, AreAt, depth_at, run_of, after_run, with_text_rows}
+use Rattle.xf_tree_changes.proofs.MapLemmas.{live-append}
+use Rattle.xf_tree_changes.proofs.SameLemmas.{SameAt, nodes-same}
 use Rattle.xf_tree.specs.State.{IsSound}
 use Rattle.xf_tree.proofs.FirstBelowLemmas.{first-below, first-attributes_and, element-behind, element-plain, texts-plain, all-at, from-at}
 use Rattle.xf_tree.proofs.ForestLemmas.{live-parts, tops-append, first-low}

@@ -2,21 +2,21 @@
 use Rattle.std.proofs.Common.{◌≡◌, ℕ, ◌+◌, ◌-◌, ◌<◌, ◌≤◌, ◌^◌, false, List, ◌++◌, map, length, take, drop, Some, None, sym, ap, ◌∙◌, subst, arith}
 use Rattle.std.proofs.lemmas.List.{length-map, map-append, take-append-drop}
 use Rattle.slab.specs.Slab.{Slab, get, Updates}
-use Rattle.xf_doc.specs.declared.content.Kind.TheVariants as kind
-use Rattle.xf_doc.specs.Forest.{kind_at}
-use Rattle.xf_doc.specs.Visit.{visits}
-use Rattle.xf_doc.specs.Shape.{has_elements}
-use Rattle.xf_doc.specs.Limits.{all_size}
-use Rattle.xf_doc.specs.Texts.{Before, Keeping, element_texts, one_text, with_texts, kept_from}
-use Rattle.xf_rows.specs.declared.rows.Row.{Row}
-use Rattle.xf_rows.specs.Rows.{tree_of, deeper}
-use Rattle.xf_slots.specs.Slot.{Slot}
-use Rattle.xf_slots.specs.Keys.{kept_of, content_in, kept_times}
-use Rattle.xf_walks.specs.Nodes.{StandsAt, AllLive, node_of, times}
-use Rattle.xf_walks.proofs.CountLemmas.{nodes-most}
-use Rattle.xf_walks.proofs.PlaceLemmas.{tree-size}
-use Rattle.xf_walks.proofs.NodeLemmas.{times-append}
-use Rattle.xf_changes.specs.Texts.{text_slot, text_count, children, keys_of, numbers_at, run_of, depth_at}
+use Rattle.xf_def_forest.specs.declared.content.Kind.TheVariants as kind
+use Rattle.xf_def_forest.specs.Forest.{kind_at}
+use Rattle.xf_def_forest.specs.Visit.{visits}
+use Rattle.xf_def_forest.specs.Shape.{has_elements}
+use Rattle.xf_def_forest.specs.Limits.{all_size}
+use Rattle.xf_def_forest.specs.Texts.{Before, Keeping, element_texts, one_text, with_texts, kept_from}
+use Rattle.xf_tree_rows.specs.declared.rows.Row.{Row}
+use Rattle.xf_tree_rows.specs.Rows.{tree_of, deeper}
+use Rattle.xf_tree_contents.specs.Slot.{Slot}
+use Rattle.xf_tree_contents.specs.Keys.{kept_of, content_in, kept_times}
+use Rattle.xf_tree_walks.specs.Nodes.{StandsAt, AllLive, node_of, times}
+use Rattle.xf_tree_walks.proofs.CountLemmas.{nodes-most}
+use Rattle.xf_tree_walks.proofs.PlaceLemmas.{tree-size}
+use Rattle.xf_tree_walks.proofs.NodeLemmas.{times-append}
+use Rattle.xf_tree_changes.specs.Texts.{text_slot, text_count, children, keys_of, numbers_at, run_of, depth_at}
 use Rattle.xf_tree.specs.State.{IsState, keeping_of}
 use Rattle.xf_tree.specs.Settled.{text_written}
 use Rattle.xf_tree.specs.Swapped.{IsSwapped}

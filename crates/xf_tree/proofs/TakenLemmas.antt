@@ -3,27 +3,27 @@ use Rattle.std.proofs.Common.{◌≡◌, ℕ, suc, ◌+◌, ◌-◌, ◌<◌, �
 use Rattle.std.proofs.lemmas.Bool.{cases_Bool, false≢true}
 use Rattle.std.proofs.lemmas.List.{map-append, length-map}
 use Rattle.slab.specs.Slab.{Slab, get, Updates}
-use Rattle.xf_doc.specs.declared.node.NodeId.{NodeId}
-use Rattle.xf_doc.specs.declared.content.Node.{Node}
-use Rattle.xf_doc.specs.declared.content.Content.TheVariants.{Text}
-use Rattle.xf_doc.specs.declared.content.Kind.TheVariants as kind
-use Rattle.xf_doc.specs.Forest.{is_text, own_text, kind_at}
-use Rattle.xf_doc.specs.Visit.{visits}
-use Rattle.xf_doc.specs.Shape.{has_elements}
-use Rattle.xf_doc.specs.Limits.{node_count, all_size, size_of}
-use Rattle.xf_doc.specs.Texts.{Keeping, KeptText, at_depth, one_text, with_texts, kept_from}
-use Rattle.xf_rows.specs.declared.rows.Row.{Row}
-use Rattle.xf_rows.specs.Rows.{Sized}
-use Rattle.xf_slots.specs.Slot.{Slot}
-use Rattle.xf_slots.specs.Keys.{kept_of, number_in, owner_in, content_in, kept_times}
-use Rattle.xf_slots.proofs.AlikeLemmas.{eq-true}
-use Rattle.xf_slots.proofs.FreeLemmas.{same-key, kept_times-append}
-use Rattle.xf_walks.specs.Nodes.{node_of, times, AllLive, StandsAt}
-use Rattle.xf_walks.proofs.NodeLemmas.{times-append}
-use Rattle.xf_changes.specs.Trees.{unsized}
-use Rattle.xf_changes.specs.Texts.{text_slot, text_count, owned_where, has_key, IsOwned, attributes, children, is_child_row, keys_of, text_row, depth_at, run_of, with_text_rows}
-use Rattle.xf_changes.proofs.SameLemmas.{SameAt}
-use Rattle.xf_changes.proofs.PackLemmas.{owned-content, owned-number}
+use Rattle.xf_def_forest.specs.declared.node.NodeId.{NodeId}
+use Rattle.xf_def_forest.specs.declared.content.Node.{Node}
+use Rattle.xf_def_forest.specs.declared.content.Content.TheVariants.{Text}
+use Rattle.xf_def_forest.specs.declared.content.Kind.TheVariants as kind
+use Rattle.xf_def_forest.specs.Forest.{is_text, own_text, kind_at}
+use Rattle.xf_def_forest.specs.Visit.{visits}
+use Rattle.xf_def_forest.specs.Shape.{has_elements}
+use Rattle.xf_def_forest.specs.Limits.{node_count, all_size, size_of}
+use Rattle.xf_def_forest.specs.Texts.{Keeping, KeptText, at_depth, one_text, with_texts, kept_from}
+use Rattle.xf_tree_rows.specs.declared.rows.Row.{Row}
+use Rattle.xf_tree_rows.specs.Rows.{Sized}
+use Rattle.xf_tree_contents.specs.Slot.{Slot}
+use Rattle.xf_tree_contents.specs.Keys.{kept_of, number_in, owner_in, content_in, kept_times}
+use Rattle.xf_tree_contents.proofs.AlikeLemmas.{eq-true}
+use Rattle.xf_tree_contents.proofs.FreeLemmas.{same-key, kept_times-append}
+use Rattle.xf_tree_walks.specs.Nodes.{node_of, times, AllLive, StandsAt}
+use Rattle.xf_tree_walks.proofs.NodeLemmas.{times-append}
+use Rattle.xf_tree_changes.specs.Trees.{unsized}
+use Rattle.xf_tree_changes.specs.Texts.{text_slot, text_count, owned_where, has_key, IsOwned, attributes, children, is_child_row, keys_of, text_row, depth_at, run_of, with_text_rows}
+use Rattle.xf_tree_changes.proofs.SameLemmas.{SameAt}
+use Rattle.xf_tree_changes.proofs.PackLemmas.{owned-content, owned-number}
 use Rattle.xf_tree.specs.State.{AllKept, IsSound, IsState, keeping_of}
 use Rattle.xf_tree.proofs.ChildlessLemmas.{AllTexts, run-all_texts}
 use Rattle.xf_tree.proofs.SwapLemmas.{stay, live-stay, live-run, stay-parts, with-parts, swap-nodes, swap-length, swap-live, swap-tops, swap-steps, swap-leaves, swap-first}

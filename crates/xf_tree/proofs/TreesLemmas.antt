@@ -5,23 +5,23 @@ use Rattle.std.specs.List.{list_any, list_all}
 use Rattle.std.proofs.lemmas.Bool.{cases_Bool, cases_lt}
 use Rattle.std.proofs.lemmas.Bool.Decides.{nat_tests}
 use Rattle.slab.specs.Slab.{Slab}
-use Rattle.xf_doc.specs.declared.content.Node.{Node}
-use Rattle.xf_doc.specs.declared.content.Content.{Content}
-use Rattle.xf_doc.specs.declared.content.Content.TheVariants.{Root, Element, Attribute, Text}
-use Rattle.xf_doc.specs.Forest.{has_number, is_root, is_element, is_attribute, is_text}
-use Rattle.xf_doc.specs.Texts.{KeptText}
-use Rattle.xf_doc.specs.WellFormed.{are_below, are_depths_from, are_first, are_tops, are_kept_apart, AreTrees}
-use Rattle.xf_rows.specs.declared.rows.Row.{Row}
-use Rattle.xf_rows.specs.Rows.{AreSteps}
-use Rattle.xf_rows.proofs.SizedLemmas.{lt-true}
-use Rattle.xf_slots.specs.Slot.{Slot}
-use Rattle.xf_slots.specs.Keys.{kept_of, kept_times}
-use Rattle.xf_slots.proofs.AlikeLemmas.{eq-true}
-use Rattle.xf_walks.specs.First.{attribute_depth, AreFirst}
-use Rattle.xf_walks.specs.Leaves.{is_leaf, parts_in, NotDeeper, AreLeaves}
-use Rattle.xf_walks.specs.Nodes.{node_of, times, AllTops}
-use Rattle.xf_walks.proofs.KidLemmas.{node_depths}
-use Rattle.xf_walks.proofs.NodeLemmas.{eq-false}
+use Rattle.xf_def_forest.specs.declared.content.Node.{Node}
+use Rattle.xf_def_forest.specs.declared.content.Content.{Content}
+use Rattle.xf_def_forest.specs.declared.content.Content.TheVariants.{Root, Element, Attribute, Text}
+use Rattle.xf_def_forest.specs.Forest.{has_number, is_root, is_element, is_attribute, is_text}
+use Rattle.xf_def_forest.specs.Texts.{KeptText}
+use Rattle.xf_def_forest.specs.WellFormed.{are_below, are_depths_from, are_first, are_tops, are_kept_apart, AreTrees}
+use Rattle.xf_tree_rows.specs.declared.rows.Row.{Row}
+use Rattle.xf_tree_rows.specs.Rows.{AreSteps}
+use Rattle.xf_tree_rows.proofs.SizedLemmas.{lt-true}
+use Rattle.xf_tree_contents.specs.Slot.{Slot}
+use Rattle.xf_tree_contents.specs.Keys.{kept_of, kept_times}
+use Rattle.xf_tree_contents.proofs.AlikeLemmas.{eq-true}
+use Rattle.xf_tree_walks.specs.First.{attribute_depth, AreFirst}
+use Rattle.xf_tree_walks.specs.Leaves.{is_leaf, parts_in, NotDeeper, AreLeaves}
+use Rattle.xf_tree_walks.specs.Nodes.{node_of, times, AllTops}
+use Rattle.xf_tree_walks.proofs.KidLemmas.{node_depths}
+use Rattle.xf_tree_walks.proofs.NodeLemmas.{eq-false}
 use Rattle.xf_tree.specs.State.{keeping_of, IsSound}
 use Rattle.xf_tree.proofs.AboveLemmas.{depths-of}
 use Rattle.xf_tree.proofs.ApartLemmas.{none-has, once-apart}

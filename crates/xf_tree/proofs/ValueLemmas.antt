@@ -3,32 +3,32 @@ use Rattle.std.proofs.Common.{◌≡◌, ℕ, ◌+◌, ◌-◌, ◌≤◌, ◌^�
 use Rattle.std.specs.Prelude.{option_map}
 use Rattle.std.proofs.lemmas.Bool.{cases_Bool}
 use Rattle.slab.specs.Slab.{Slab, get, Updates}
-use Rattle.xf_doc.specs.declared.content.Node.{Node}
-use Rattle.xf_doc.specs.declared.content.Content.{Content}
-use Rattle.xf_doc.specs.declared.content.Content.TheVariants.{Root, Element, Attribute, Text}
-use Rattle.xf_doc.specs.declared.content.Kind.{Kind}
-use Rattle.xf_doc.specs.declared.content.Kind.TheVariants as kind
-use Rattle.xf_doc.specs.Forest.{is_root, is_attribute, is_text, own_text, kind_of, kind_at, has_number, first_tree, tree_of}
-use Rattle.xf_doc.specs.Limits.{limits, unless, node_count, all_size, size_of}
-use Rattle.xf_doc.specs.Texts.{KeptText, Keeping, attribute_text, with_value, with_attribute_text, is_attribute_at, value_in, text_set}
-use Rattle.xf_doc.specs.Settle.{numbered_text_set}
-use Rattle.xf_rows.specs.declared.rows.Row.{Row}
-use Rattle.xf_rows.specs.Rows.{no_row}
-use Rattle.xf_slots.specs.Slot.{Slot}
-use Rattle.xf_slots.specs.Keys.{kept_of, number_in, content_in, kept_times}
-use Rattle.xf_slots.specs.Slots.{valued_slot}
-use Rattle.xf_slots.proofs.AlikeLemmas.{eq-true}
-use Rattle.xf_slots.proofs.FreeLemmas.{same-key}
-use Rattle.xf_walks.specs.Nodes.{node_of, times, AllLive, AllTops, StandsAt}
-use Rattle.xf_walks.specs.Leaves.{is_leaf, parts_in, AreLeaves}
-use Rattle.xf_walks.specs.First.{attribute_depth, AreFirst}
-use Rattle.xf_walks.proofs.NodeLemmas.{Parted, parted-from, times-append, times-here}
-use Rattle.xf_walks.proofs.PlaceLemmas.{stands, times-at, parted-at}
-use Rattle.xf_walks.proofs.StackLemmas.{absent-parts}
-use Rattle.xf_walks.proofs.LeafLemmas.{parts-append}
-use Rattle.xf_walks.proofs.CountLemmas.{nodes-append, sizes-append, nodes-cons, sizes-cons}
-use Rattle.xf_walks.proofs.RootLemmas.{tops-parts}
-use Rattle.xf_changes.specs.Texts.{passed_by}
+use Rattle.xf_def_forest.specs.declared.content.Node.{Node}
+use Rattle.xf_def_forest.specs.declared.content.Content.{Content}
+use Rattle.xf_def_forest.specs.declared.content.Content.TheVariants.{Root, Element, Attribute, Text}
+use Rattle.xf_def_forest.specs.declared.content.Kind.{Kind}
+use Rattle.xf_def_forest.specs.declared.content.Kind.TheVariants as kind
+use Rattle.xf_def_forest.specs.Forest.{is_root, is_attribute, is_text, own_text, kind_of, kind_at, has_number, first_tree, tree_of}
+use Rattle.xf_def_forest.specs.Limits.{limits, unless, node_count, all_size, size_of}
+use Rattle.xf_def_forest.specs.Texts.{KeptText, Keeping, attribute_text, with_value, with_attribute_text, is_attribute_at, value_in, text_set}
+use Rattle.xf_def_forest.specs.Settle.{numbered_text_set}
+use Rattle.xf_tree_rows.specs.declared.rows.Row.{Row}
+use Rattle.xf_tree_rows.specs.Rows.{no_row}
+use Rattle.xf_tree_contents.specs.Slot.{Slot}
+use Rattle.xf_tree_contents.specs.Keys.{kept_of, number_in, content_in, kept_times}
+use Rattle.xf_tree_contents.specs.Slots.{valued_slot}
+use Rattle.xf_tree_contents.proofs.AlikeLemmas.{eq-true}
+use Rattle.xf_tree_contents.proofs.FreeLemmas.{same-key}
+use Rattle.xf_tree_walks.specs.Nodes.{node_of, times, AllLive, AllTops, StandsAt}
+use Rattle.xf_tree_walks.specs.Leaves.{is_leaf, parts_in, AreLeaves}
+use Rattle.xf_tree_walks.specs.First.{attribute_depth, AreFirst}
+use Rattle.xf_tree_walks.proofs.NodeLemmas.{Parted, parted-from, times-append, times-here}
+use Rattle.xf_tree_walks.proofs.PlaceLemmas.{stands, times-at, parted-at}
+use Rattle.xf_tree_walks.proofs.StackLemmas.{absent-parts}
+use Rattle.xf_tree_walks.proofs.LeafLemmas.{parts-append}
+use Rattle.xf_tree_walks.proofs.CountLemmas.{nodes-append, sizes-append, nodes-cons, sizes-cons}
+use Rattle.xf_tree_walks.proofs.RootLemmas.{tops-parts}
+use Rattle.xf_tree_changes.specs.Texts.{passed_by}
 use Rattle.xf_tree.specs.State.{AllKept, IsSound, IsState, keeping_of}
 use Rattle.xf_tree.proofs.MeansLemmas.{one_of, content-means}
 use Rattle.xf_tree.proofs.FirstBelowLemmas.{first-changed}

@@ -3,17 +3,17 @@ use Rattle.std.proofs.Common.{◌≡◌, ℕ, suc, ◌<◌, ◌≤◌, ◌&&◌,
 use Rattle.std.specs.List.{list_all}
 use Rattle.std.proofs.lemmas.Bool.{cases_Bool, cases_lt, false≢true}
 use Rattle.slab.specs.Slab.{Slab}
-use Rattle.xf_doc.specs.declared.content.Node.{Node}
-use Rattle.xf_doc.specs.Forest.{is_root}
-use Rattle.xf_doc.specs.Visit.{still_above, numbers, visit, visits_from, visits}
-use Rattle.xf_doc.specs.Needs.{is_new, goes_or_stays}
-use Rattle.xf_rows.specs.declared.rows.Row.{Row}
-use Rattle.xf_rows.specs.Rows.{AreSteps}
-use Rattle.xf_rows.proofs.SizedLemmas.{lt-true, lt-false}
-use Rattle.xf_slots.specs.Slot.{Slot}
-use Rattle.xf_walks.specs.Nodes.{node_of}
-use Rattle.xf_walks.proofs.KidLemmas.{node_depths}
-use Rattle.xf_changes.specs.Older.{AreWhole}
+use Rattle.xf_def_forest.specs.declared.content.Node.{Node}
+use Rattle.xf_def_forest.specs.Forest.{is_root}
+use Rattle.xf_def_forest.specs.Visit.{still_above, numbers, visit, visits_from, visits}
+use Rattle.xf_def_forest.specs.Needs.{is_new, goes_or_stays}
+use Rattle.xf_tree_rows.specs.declared.rows.Row.{Row}
+use Rattle.xf_tree_rows.specs.Rows.{AreSteps}
+use Rattle.xf_tree_rows.proofs.SizedLemmas.{lt-true, lt-false}
+use Rattle.xf_tree_contents.specs.Slot.{Slot}
+use Rattle.xf_tree_walks.specs.Nodes.{node_of}
+use Rattle.xf_tree_walks.proofs.KidLemmas.{node_depths}
+use Rattle.xf_tree_changes.specs.Older.{AreWhole}
 use Rattle.xf_tree.specs.State.{IsSound}
 use Rattle.xf_tree.proofs.AboveLemmas.{depths-of}
 

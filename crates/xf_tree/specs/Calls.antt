@@ -1,11 +1,11 @@
 -- What the calls of a forest give.
 use Rattle.std.specs.Prelude.{ℕ, ◌+◌, List, [], ◌++◌, length, map, Option, Result}
-use Rattle.xf_doc.specs.declared.content.Content.{Content}
-use Rattle.xf_doc.specs.declared.fault.TreeFault.{TreeFault}
-use Rattle.xf_doc.specs.Forest.{Forest, empty}
-use Rattle.xf_doc.specs.Limits.{unless}
-use Rattle.xf_doc.specs.Plant.{numbered_from}
-use Rattle.xf_doc.specs.Texts.{Keeping, Before, attribute_text, element_texts}
+use Rattle.xf_def_forest.specs.declared.content.Content.{Content}
+use Rattle.xf_def_forest.specs.declared.fault.TreeFault.{TreeFault}
+use Rattle.xf_def_forest.specs.Forest.{Forest, empty}
+use Rattle.xf_def_forest.specs.Limits.{unless}
+use Rattle.xf_def_forest.specs.Plant.{numbered_from}
+use Rattle.xf_def_forest.specs.Texts.{Keeping, Before, attribute_text, element_texts}
 use Rattle.xf_tree.specs.declared.before.Had.{Had}
 use Rattle.xf_tree.specs.declared.before.Had.TheVariants as had
 

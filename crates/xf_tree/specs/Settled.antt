@@ -1,10 +1,10 @@
 -- What writing the text of an element means, whatever number the text has.
 use Rattle.std.specs.Prelude.{ℕ, ◌≡◌, ◌+◌, ◌≤◌, List, ◌++◌}
-use Rattle.xf_doc.specs.Texts.{Keeping, Before, before_of, taken_from}
-use Rattle.xf_doc.specs.Settle.{with_numbered_text}
-use Rattle.xf_slots.specs.Keys.{kept_times}
-use Rattle.xf_walks.specs.Nodes.{times}
-use Rattle.xf_changes.specs.Texts.{text_count}
+use Rattle.xf_def_forest.specs.Texts.{Keeping, Before, before_of, taken_from}
+use Rattle.xf_def_forest.specs.Settle.{with_numbered_text}
+use Rattle.xf_tree_contents.specs.Keys.{kept_times}
+use Rattle.xf_tree_walks.specs.Nodes.{times}
+use Rattle.xf_tree_changes.specs.Texts.{text_count}
 
 -- what the node had, and the forest with the text, which has this number; another number is next then
 abbrev pub text_written : ℕ → ℕ → ℕ → List ℕ → Keeping → Before × Keeping

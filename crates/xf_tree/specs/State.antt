@@ -1,16 +1,16 @@
 -- The forest and the kept texts that rows and slots stand for, and the invariant that each call keeps.
 use Rattle.std.specs.Prelude.{ℕ, ◌≡◌, ◌+◌, ◌≤◌, ◌<◌, ◌^◌, length, true, List, [], ◌∷◌, map}
 use Rattle.slab.specs.Slab.{Slab, get}
-use Rattle.xf_doc.specs.Forest.{is_text}
-use Rattle.xf_doc.specs.Limits.{node_count, all_size, size_of}
-use Rattle.xf_doc.specs.Texts.{Keeping}
-use Rattle.xf_rows.specs.declared.rows.Row.{Row}
-use Rattle.xf_rows.specs.Rows.{Sized, AreSteps, depths}
-use Rattle.xf_slots.specs.Slot.{Slot}
-use Rattle.xf_slots.specs.Keys.{kept_of, content_in, kept_times}
-use Rattle.xf_walks.specs.Leaves.{AreLeaves, parts_in}
-use Rattle.xf_walks.specs.First.{AreFirst}
-use Rattle.xf_walks.specs.Nodes.{node_of, AllLive, AllTops, times}
+use Rattle.xf_def_forest.specs.Forest.{is_text}
+use Rattle.xf_def_forest.specs.Limits.{node_count, all_size, size_of}
+use Rattle.xf_def_forest.specs.Texts.{Keeping}
+use Rattle.xf_tree_rows.specs.declared.rows.Row.{Row}
+use Rattle.xf_tree_rows.specs.Rows.{Sized, AreSteps, depths}
+use Rattle.xf_tree_contents.specs.Slot.{Slot}
+use Rattle.xf_tree_contents.specs.Keys.{kept_of, content_in, kept_times}
+use Rattle.xf_tree_walks.specs.Leaves.{AreLeaves, parts_in}
+use Rattle.xf_tree_walks.specs.First.{AreFirst}
+use Rattle.xf_tree_walks.specs.Nodes.{node_of, AllLive, AllTops, times}
 
 -- the forest, and the texts kept beside it
 abbrev pub keeping_of : Slab Slot → List Row → List ℕ → ℕ → Keeping

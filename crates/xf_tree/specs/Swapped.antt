@@ -1,11 +1,11 @@
 -- What a text in place of an element's texts makes of rows, slots and kept texts.
 use Rattle.std.specs.Prelude.{ℕ, ◌≡◌, ◌+◌, ◌≤◌, ◌<◌, ◌^◌, List, [], ◌∷◌, ◌++◌, map, take, length, None}
 use Rattle.slab.specs.Slab.{Slab, get, Updates}
-use Rattle.xf_rows.specs.declared.rows.Row.{Row}
-use Rattle.xf_rows.specs.Rows.{Sized}
-use Rattle.xf_slots.specs.Slot.{Slot}
-use Rattle.xf_changes.specs.Trees.{unsized}
-use Rattle.xf_changes.specs.Texts.{text_slot, text_count, children, keys_of, numbers_at, run_of, with_text_rows, IsOwned}
+use Rattle.xf_tree_rows.specs.declared.rows.Row.{Row}
+use Rattle.xf_tree_rows.specs.Rows.{Sized}
+use Rattle.xf_tree_contents.specs.Slot.{Slot}
+use Rattle.xf_tree_changes.specs.Trees.{unsized}
+use Rattle.xf_tree_changes.specs.Texts.{text_slot, text_count, children, keys_of, numbers_at, run_of, with_text_rows, IsOwned}
 
 -- the text comes into a slot that is free where room was made, then the texts that were there get their owner
 pub record IsSwapped (s s3 : Slab Slot) (rows new : List Row) (kept kept2 had : List ℕ) (n at number : ℕ) (text : List ℕ) (room : ℕ) : Type 0 where

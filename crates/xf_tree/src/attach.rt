@@ -1,19 +1,19 @@
 //! A detached tree comes into place below a parent.
 ghost use Rattle.std.specs.Prelude.{◌≡◌, ◌⊎◌, false, map, IfNone, IfSome, OnErr};
 ghost use Rattle.std.specs.Result.{result_map_both};
-ghost use Rattle.xf_doc.specs.Forest.{IsLive, has_number, content_at, tree_of};
-ghost use Rattle.xf_doc.specs.Changes.{placed, place_of, attached, elements_above};
-ghost use Rattle.xf_doc.specs.Limits.{limits, is_too_deep};
-ghost use Rattle.xf_doc.specs.Needs.{MayAttach, MayPlace};
-ghost use Rattle.xf_doc.specs.Visit.{visits};
-ghost use Rattle.xf_walks.specs.Nodes.{StandsAt, node_of};
+ghost use Rattle.xf_def_forest.specs.Forest.{IsLive, has_number, content_at, tree_of};
+ghost use Rattle.xf_def_forest.specs.Changes.{placed, place_of, attached, elements_above};
+ghost use Rattle.xf_def_forest.specs.Limits.{limits, is_too_deep};
+ghost use Rattle.xf_def_forest.specs.Needs.{MayAttach, MayPlace};
+ghost use Rattle.xf_def_forest.specs.Visit.{visits};
+ghost use Rattle.xf_tree_walks.specs.Nodes.{StandsAt, node_of};
 
 use crate::forest::Forest;
-use xf_changes::{elements_over, has_deep, place_tree};
-use xf_doc::{NodeId, TreeFault};
-use xf_rows::{Hints, Rows, end_of, slice};
-use xf_slots::{Slots, is_attribute_at};
-use xf_walks::{count_lesser, row_of};
+use xf_def_forest::{NodeId, TreeFault};
+use xf_tree_changes::{elements_over, has_deep, place_tree};
+use xf_tree_contents::{Slots, is_attribute_at};
+use xf_tree_rows::{Hints, Rows, end_of, slice};
+use xf_tree_walks::{count_lesser, row_of};
 
 impl Forest {
     /// Puts a detached tree below a parent: before the child with this place, or behind them all, and an attribute so among the

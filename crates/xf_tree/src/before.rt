@@ -1,6 +1,6 @@
 //! What a node had before its text was set.
 use std::marker::Model;
-use xf_doc::NodeId;
+use xf_def_forest::NodeId;
 use xf_name::Word;
 
 /// What a node had before its text was set: an attribute's text, or the texts of an element, which stay kept beside the forest.
@@ -17,7 +17,7 @@ pub enum Had {
 }
 
 impl Model for Before {
-    ghost use Rattle.xf_doc.specs.Texts.{Before as Known};
+    ghost use Rattle.xf_def_forest.specs.Texts.{Before as Known};
 
     ghost Value = { Known };
 

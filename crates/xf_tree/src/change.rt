@@ -2,27 +2,29 @@
 ghost use Rattle.std.specs.Prelude.{◌≡◌, ◌<◌, ◌≤◌, ◌+◌, ◌^◌, ◌++◌, ◌⊎◌, ℕ, Some, None, length, IfOk, IfErr, OnOk, OnErr};
 ghost use Rattle.slab.specs.Slab.{get, HasRoomFor};
 ghost use Rattle.xf_base.specs.Gives.{Gives};
-ghost use Rattle.xf_doc.specs.Forest.{tree_of};
-ghost use Rattle.xf_doc.specs.Changes.{detached, standing, copied, contents_in, with_root};
-ghost use Rattle.xf_doc.specs.Limits.{limits, passed_by_all, passed_by_tree};
-ghost use Rattle.xf_doc.specs.Needs.{MayCopy, MayDetach, MayRoot};
-ghost use Rattle.xf_doc.specs.Plant.{numbered_from};
-ghost use Rattle.xf_doc.specs.Planted.{planted, planted_bare};
+ghost use Rattle.xf_def_forest.specs.Forest.{tree_of};
+ghost use Rattle.xf_def_forest.specs.Changes.{detached, standing, copied, contents_in, with_root};
+ghost use Rattle.xf_def_forest.specs.Limits.{limits, passed_by_all, passed_by_tree};
+ghost use Rattle.xf_def_forest.specs.Needs.{MayCopy, MayDetach, MayRoot};
+ghost use Rattle.xf_def_forest.specs.Plant.{numbered_from};
+ghost use Rattle.xf_def_forest.specs.Planted.{planted, planted_bare};
 
 use crate::forest::Forest;
 use std::alloc::{AllocError, Global};
 use xf_base::limits::{ALL_LIMIT, NODE_LIMIT};
-use xf_changes::{contents_of, push_tree, root_over, size_of_tree};
-use xf_doc::{Bare, NodeId, TreeFault};
-use xf_literal::{contents_of_bare, contents_of_lit, fault_of_bare, has_deep, has_long, lit_fault};
+use xf_def_forest::{Bare, NodeId, TreeFault};
 use xf_name::{Lit, Prefixes};
-use xf_rows::{Rows, cut, end_of, parent_row, slice};
-use xf_slots::{Part, ROW_LIMIT, Slots, number_of};
-use xf_walks::{place_of, row_of};
+use xf_tree_changes::{contents_of, push_tree, root_over, size_of_tree};
+use xf_tree_contents::{Part, ROW_LIMIT, Slots, number_of};
+use xf_tree_literals::{
+    contents_of_bare, contents_of_lit, fault_of_bare, has_deep, has_long, lit_fault,
+};
+use xf_tree_rows::{Rows, cut, end_of, parent_row, slice};
+use xf_tree_walks::{place_of, row_of};
 
 impl Forest {
     ghost use Rattle.xf_tree.specs.Calls.{added_unless};
-    ghost use Rattle.xf_walks.specs.Nodes.{IsTree};
+    ghost use Rattle.xf_tree_walks.specs.Nodes.{IsTree};
 
     /// Cuts a node's tree off: it stands behind all other trees. The answer is the parent that the node had, and its
     /// place there. Takes no memory.

@@ -1,16 +1,16 @@
 //! The nodes on an axis: all of them, those that are sought, and the one at a place among these.
 ghost use Rattle.std.specs.Prelude.{◌≡◌, ◌++◌, OnOk, option_map, slice_get};
-ghost use Rattle.xf_doc.specs.Forest.{IsLive};
-ghost use Rattle.xf_doc.specs.Visit.{visits};
-ghost use Rattle.xf_doc.specs.Axis.{axis_of};
-ghost use Rattle.xf_slots.specs.Sought.{met_on};
+ghost use Rattle.xf_def_forest.specs.Forest.{IsLive};
+ghost use Rattle.xf_def_forest.specs.Visit.{visits};
+ghost use Rattle.xf_def_forest.specs.Axis.{axis_of};
+ghost use Rattle.xf_tree_contents.specs.Sought.{met_on};
 
 use crate::forest::Forest;
 use std::alloc::AllocError;
-use xf_doc::{NodeId, NodeList};
+use xf_def_forest::{NodeId, NodeList};
 use xf_name::Axis;
-use xf_slots::{Sought, number_of};
-use xf_walks::{Walk, no_walk, push_on_axis, row_of, row_on_axis, walk_from};
+use xf_tree_contents::{Sought, number_of};
+use xf_tree_walks::{Walk, no_walk, push_on_axis, row_of, row_on_axis, walk_from};
 
 impl Forest {
     /// The nodes on an axis from a node, in proximity order (XPath 1.0, section 2.4).

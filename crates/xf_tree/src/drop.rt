@@ -1,12 +1,12 @@
 //! Trees and kept texts that are dropped.
 ghost use Rattle.std.specs.Prelude.{◌≡◌};
-ghost use Rattle.xf_doc.specs.Needs.{MayDropFrom};
-ghost use Rattle.xf_doc.specs.Texts.{without_detached, without_from};
+ghost use Rattle.xf_def_forest.specs.Needs.{MayDropFrom};
+ghost use Rattle.xf_def_forest.specs.Texts.{without_detached, without_from};
 
 use crate::forest::Forest;
-use xf_changes::{drop_kept, drop_newer, free_rows};
-use xf_rows::slice;
-use xf_walks::tops_end;
+use xf_tree_changes::{drop_kept, drop_newer, free_rows};
+use xf_tree_rows::slice;
+use xf_tree_walks::tops_end;
 
 impl Forest {
     /// Drops all detached trees and all kept texts. Takes no memory.

@@ -1,18 +1,18 @@
 //! The forest of instance data, and what is read of it.
 ghost use Rattle.std.specs.Prelude.{◌≡◌, ◌↔◌, false, Some, IsTrue, IfOk, IfSome, MatchOption, option_map};
-ghost use Rattle.xf_doc.specs.Forest.{IsLive, has_number, kind_at, name_at};
-ghost use Rattle.xf_doc.specs.Changes.{root_of};
-ghost use Rattle.xf_doc.specs.Order.{is_before};
-ghost use Rattle.xf_doc.specs.StringValue.{string_value_within};
-ghost use Rattle.xf_doc.specs.Visit.{visits, parent_of};
+ghost use Rattle.xf_def_forest.specs.Forest.{IsLive, has_number, kind_at, name_at};
+ghost use Rattle.xf_def_forest.specs.Changes.{root_of};
+ghost use Rattle.xf_def_forest.specs.Order.{is_before};
+ghost use Rattle.xf_def_forest.specs.StringValue.{string_value_within};
+ghost use Rattle.xf_def_forest.specs.Visit.{visits, parent_of};
 
 use std::alloc::{AllocError, Global};
 use std::marker::Model;
-use xf_doc::{Kind, NodeId};
+use xf_def_forest::{Kind, NodeId};
 use xf_name::{QName, Word};
-use xf_rows::{Hints, Rows, parent_row};
-use xf_slots::{Slots, number_of};
-use xf_walks::{root_row, row_of, text_at};
+use xf_tree_contents::{Slots, number_of};
+use xf_tree_rows::{Hints, Rows, parent_row};
+use xf_tree_walks::{root_row, row_of, text_at};
 
 /// A forest: rows in document order, and beside them what each node is. Contracts see it as the list of its nodes, and the
 /// texts that are kept beside them.
@@ -32,7 +32,7 @@ pub struct Forest {
 }
 
 impl Model for Forest {
-    ghost use Rattle.xf_doc.specs.Texts.{Keeping};
+    ghost use Rattle.xf_def_forest.specs.Texts.{Keeping};
 
     ghost Value = { Keeping };
 
@@ -103,7 +103,7 @@ impl Forest {
         ensures { Some result ≡ kind_at node.number self.now.forest.nodes }
     {
         match row_of(&self.rows, &self.slots, &self.hints, node) {
-            Some(at) => xf_slots::kind(&self.slots, self.rows.at(at).key),
+            Some(at) => xf_tree_contents::kind(&self.slots, self.rows.at(at).key),
             None => Kind::Root,
         }
     }
@@ -114,7 +114,7 @@ impl Forest {
         ensures { option_map (λ name. name.now) result ≡ name_at node.number self.now.forest.nodes }
     {
         match row_of(&self.rows, &self.slots, &self.hints, node) {
-            Some(at) => xf_slots::name(&self.slots, self.rows.at(at).key),
+            Some(at) => xf_tree_contents::name(&self.slots, self.rows.at(at).key),
             None => None,
         }
     }

@@ -1,5 +1,5 @@
 //! What holds of every forest.
-ghost use Rattle.xf_doc.specs.WellFormed.{AreTrees};
+ghost use Rattle.xf_def_forest.specs.WellFormed.{AreTrees};
 
 use crate::forest::Forest;
 

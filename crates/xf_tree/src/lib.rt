@@ -18,5 +18,5 @@ mod texts;
 
 pub use before::Before;
 pub use forest::Forest;
-pub use xf_slots::{Principal, Seen, Sought};
-pub use xf_walks::{Pieces, Walk};
+pub use xf_tree_contents::{Principal, Seen, Sought};
+pub use xf_tree_walks::{Pieces, Walk};

@@ -1,16 +1,16 @@
 //! Whether what a change needs holds, for a caller who cannot know it. A node that does not stand in the forest may nothing.
 ghost use Rattle.std.specs.Prelude.{◌≡◌, ◌↔◌, Some, IsTrue, is_some, length, nat_le};
-ghost use Rattle.xf_doc.specs.Forest.{has_number, kind_at, tree_of};
-ghost use Rattle.xf_doc.specs.Needs.{MayCopy, MayRoot, MayDetach, MayAttach, MayStand, MayDropFrom, IsSettable, is_top, lacks_name};
-ghost use Rattle.xf_doc.specs.Shape.{has_elements};
-ghost use Rattle.xf_doc.specs.Visit.{visits, parent_of, children_of};
+ghost use Rattle.xf_def_forest.specs.Forest.{has_number, kind_at, tree_of};
+ghost use Rattle.xf_def_forest.specs.Needs.{MayCopy, MayRoot, MayDetach, MayAttach, MayStand, MayDropFrom, IsSettable, is_top, lacks_name};
+ghost use Rattle.xf_def_forest.specs.Shape.{has_elements};
+ghost use Rattle.xf_def_forest.specs.Visit.{visits, parent_of, children_of};
 
 use crate::forest::Forest;
-use xf_changes::are_whole;
-use xf_doc::{Kind, NodeId};
-use xf_rows::{end_of, parent_row};
-use xf_slots::{is_root_at, kind};
-use xf_walks::{has_attribute, has_children, has_element, row_of};
+use xf_def_forest::{Kind, NodeId};
+use xf_tree_changes::are_whole;
+use xf_tree_contents::{is_root_at, kind};
+use xf_tree_rows::{end_of, parent_row};
+use xf_tree_walks::{has_attribute, has_children, has_element, row_of};
 
 impl Forest {
     /// Whether a copy can be made of the node's tree.

@@ -1,12 +1,12 @@
 //! Sets of nodes in document order.
 ghost use Rattle.std.specs.Prelude.{◌≡◌, IfOk};
-ghost use Rattle.xf_doc.specs.Order.{in_order};
-ghost use Rattle.xf_doc.specs.Visit.{visits};
+ghost use Rattle.xf_def_forest.specs.Order.{in_order};
+ghost use Rattle.xf_def_forest.specs.Visit.{visits};
 
 use crate::forest::Forest;
 use std::alloc::AllocError;
-use xf_doc::NodeList;
-use xf_walks::{copied, goes_up, sorted};
+use xf_def_forest::NodeList;
+use xf_tree_walks::{copied, goes_up, sorted};
 
 impl Forest {
     /// A set of nodes in document order, each once; one that is not live is not in it. It costs one pass where they stand in

@@ -1,16 +1,16 @@
 //! The literal trees of a node: as it is printed, and with resolved names.
 ghost use Rattle.std.specs.Prelude.{◌≡◌, Some, IfOk};
-ghost use Rattle.xf_doc.specs.Printed.{lit_of};
-ghost use Rattle.xf_doc.specs.Literal.{bare_of};
-ghost use Rattle.xf_literal.specs.Print.{MayPrint};
+ghost use Rattle.xf_def_forest.specs.Printed.{lit_of};
+ghost use Rattle.xf_def_forest.specs.Literal.{bare_of};
+ghost use Rattle.xf_tree_literals.specs.Print.{MayPrint};
 
 use crate::forest::Forest;
 use std::alloc::AllocError;
-use xf_doc::{Bare, NodeId, NodeList};
-use xf_literal::{bare_of_rows, lit_of_rows, numbers_of, printed_rows};
+use xf_def_forest::{Bare, NodeId, NodeList};
 use xf_name::{Lit, Prefixes, Word};
-use xf_rows::{end_of, slice};
-use xf_walks::row_of;
+use xf_tree_literals::{bare_of_rows, lit_of_rows, numbers_of, printed_rows};
+use xf_tree_rows::{end_of, slice};
+use xf_tree_walks::row_of;
 
 impl Forest {
     /// The tree of an element or text as it is printed, with the nodes below it that are kept and the declarations that it

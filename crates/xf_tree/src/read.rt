@@ -1,20 +1,20 @@
 //! What is read of a node: what it is, its texts, where it stands, the top of its tree, its path.
 ghost use Rattle.std.specs.Prelude.{◌≡◌, option_map, IfOk};
-ghost use Rattle.xf_doc.specs.Changes.{standing};
-ghost use Rattle.xf_doc.specs.Forest.{IsLive, content_at};
-ghost use Rattle.xf_doc.specs.Order.{rank_of};
-ghost use Rattle.xf_doc.specs.StringValue.{pieces, whole};
-ghost use Rattle.xf_doc.specs.Visit.{visits, top_of};
-ghost use Rattle.xf_doc.specs.Path.{path_of};
-ghost use Rattle.xf_slots.specs.Seen.{seen_content};
+ghost use Rattle.xf_def_forest.specs.Changes.{standing};
+ghost use Rattle.xf_def_forest.specs.Forest.{IsLive, content_at};
+ghost use Rattle.xf_def_forest.specs.Order.{rank_of};
+ghost use Rattle.xf_def_forest.specs.StringValue.{pieces, whole};
+ghost use Rattle.xf_def_forest.specs.Visit.{visits, top_of};
+ghost use Rattle.xf_def_forest.specs.Path.{path_of};
+ghost use Rattle.xf_tree_contents.specs.Seen.{seen_content};
 
 use crate::forest::Forest;
 use std::alloc::AllocError;
-use xf_doc::NodeId;
+use xf_def_forest::NodeId;
 use xf_name::Word;
-use xf_rows::parent_row;
-use xf_slots::{Seen, content_of, number_of};
-use xf_walks::{Pieces, no_pieces, path_at, pieces_at, place_of, row_of, top_row, whole_at};
+use xf_tree_contents::{Seen, content_of, number_of};
+use xf_tree_rows::parent_row;
+use xf_tree_walks::{Pieces, no_pieces, path_at, pieces_at, place_of, row_of, top_row, whole_at};
 
 impl Forest {
     /// What the node is: its kind, its name as it is resolved and as it is written, its own text. `None` where it is not live.

@@ -1,23 +1,23 @@
 //! Texts that are set, and put back.
 ghost use Rattle.std.specs.Prelude.{◌≡◌, ◌<◌, ◌^◌, Some, false, OnErr};
 ghost use Rattle.xf_base.specs.Gives.{Gives};
-ghost use Rattle.xf_doc.specs.declared.content.Kind.TheVariants.{Attribute, Element};
-ghost use Rattle.xf_doc.specs.Forest.{kind_at};
-ghost use Rattle.xf_doc.specs.Visit.{visits};
-ghost use Rattle.xf_doc.specs.Shape.{has_elements};
-ghost use Rattle.xf_doc.specs.Limits.{limits};
-ghost use Rattle.xf_doc.specs.Needs.{IsSettable, MayPutBack, MayGiveUp};
-ghost use Rattle.xf_doc.specs.Texts.{text_set, put_back, given_up, attribute_text, element_texts};
-ghost use Rattle.xf_changes.specs.Texts.{numbers_in};
+ghost use Rattle.xf_def_forest.specs.declared.content.Kind.TheVariants.{Attribute, Element};
+ghost use Rattle.xf_def_forest.specs.Forest.{kind_at};
+ghost use Rattle.xf_def_forest.specs.Visit.{visits};
+ghost use Rattle.xf_def_forest.specs.Shape.{has_elements};
+ghost use Rattle.xf_def_forest.specs.Limits.{limits};
+ghost use Rattle.xf_def_forest.specs.Needs.{IsSettable, MayPutBack, MayGiveUp};
+ghost use Rattle.xf_def_forest.specs.Texts.{text_set, put_back, given_up, attribute_text, element_texts};
+ghost use Rattle.xf_tree_changes.specs.Texts.{numbers_in};
 
 use crate::before::{Before, Had};
 use crate::forest::Forest;
 use crate::texts::{sums_of, swap_back, swap_texts};
-use xf_changes::{change_value, free_all, passed, take_kept};
-use xf_doc::{Kind, NodeId, TreeFault};
+use xf_def_forest::{Kind, NodeId, TreeFault};
 use xf_name::Word;
-use xf_slots::own;
-use xf_walks::row_of;
+use xf_tree_changes::{change_value, free_all, passed, take_kept};
+use xf_tree_contents::own;
+use xf_tree_walks::row_of;
 
 impl Forest {
     /// Sets the text of an attribute, or of an element without element children. The texts that an element had are kept

@@ -1,24 +1,24 @@
 //! Texts that are settled, with numbers that were reserved.
 ghost use Rattle.std.specs.Prelude.{◌≡◌, ◌<◌, ◌^◌, ℕ, Some, false, IfOk, OnErr};
-ghost use Rattle.xf_doc.specs.declared.content.Kind.TheVariants.{Attribute, Element};
-ghost use Rattle.xf_doc.specs.Forest.{kind_at};
-ghost use Rattle.xf_doc.specs.Visit.{visits};
-ghost use Rattle.xf_doc.specs.Shape.{has_elements};
-ghost use Rattle.xf_doc.specs.Limits.{limits, passed_by_all};
-ghost use Rattle.xf_doc.specs.Needs.{IsSettable};
-ghost use Rattle.xf_doc.specs.Settle.{reserved, IsFree, numbered_text_set, has_text};
+ghost use Rattle.xf_def_forest.specs.declared.content.Kind.TheVariants.{Attribute, Element};
+ghost use Rattle.xf_def_forest.specs.Forest.{kind_at};
+ghost use Rattle.xf_def_forest.specs.Visit.{visits};
+ghost use Rattle.xf_def_forest.specs.Shape.{has_elements};
+ghost use Rattle.xf_def_forest.specs.Limits.{limits, passed_by_all};
+ghost use Rattle.xf_def_forest.specs.Needs.{IsSettable};
+ghost use Rattle.xf_def_forest.specs.Settle.{reserved, IsFree, numbered_text_set, has_text};
 ghost use Rattle.xf_tree.specs.Settled.{text_written, IsSpare};
 
 use crate::before::{Before, Had};
 use crate::forest::Forest;
 use crate::texts::{sums_of, swap_texts};
 use std::alloc::AllocError;
-use xf_changes::{change_value, passed};
-use xf_doc::{Kind, NodeId, TreeFault};
+use xf_def_forest::{Kind, NodeId, TreeFault};
 use xf_name::Word;
-use xf_rows::{end_of, slice};
-use xf_slots::{is_attribute_at, own};
-use xf_walks::{are_texts, row_of};
+use xf_tree_changes::{change_value, passed};
+use xf_tree_contents::{is_attribute_at, own};
+use xf_tree_rows::{end_of, slice};
+use xf_tree_walks::{are_texts, row_of};
 
 impl Forest {
     /// Reserves so many numbers: no new node takes them.

@@ -1,23 +1,23 @@
 //! A text that comes in place of the texts of an element, on the parts of a forest.
 ghost use Rattle.std.specs.Prelude.{◌≡◌, ◌+◌, ◌-◌, ◌≤◌, ◌<◌, ◌^◌, ℕ, [], length, map, drop, vec_len, vec_capacity, IfOk, OnOk, OnErr};
 ghost use Rattle.slab.specs.Slab.{get, HasRoomFor};
-ghost use Rattle.xf_doc.specs.Limits.{all_size, node_count, size_of};
-ghost use Rattle.xf_doc.specs.Forest.{is_attribute};
-ghost use Rattle.xf_slots.specs.Keys.{content_in};
-ghost use Rattle.xf_changes.specs.Trees.{unsized};
-ghost use Rattle.xf_rows.specs.Rows.{Sized, tree_of};
-ghost use Rattle.xf_walks.specs.Nodes.{AllLive, KeepsBut, node_of, times};
-ghost use Rattle.xf_changes.specs.Texts.{text_count, children, run_of, depth_at, AreAt, numbers_in, text_row, with_text_rows};
+ghost use Rattle.xf_def_forest.specs.Limits.{all_size, node_count, size_of};
+ghost use Rattle.xf_def_forest.specs.Forest.{is_attribute};
+ghost use Rattle.xf_tree_contents.specs.Keys.{content_in};
+ghost use Rattle.xf_tree_changes.specs.Trees.{unsized};
+ghost use Rattle.xf_tree_rows.specs.Rows.{Sized, tree_of};
+ghost use Rattle.xf_tree_walks.specs.Nodes.{AllLive, KeepsBut, node_of, times};
+ghost use Rattle.xf_tree_changes.specs.Texts.{text_count, children, run_of, depth_at, AreAt, numbers_in, text_row, with_text_rows};
 ghost use Rattle.xf_tree.specs.Swapped.{IsSwapped};
 
 use std::alloc::{AllocError, Global};
-use xf_changes::{
+use xf_def_forest::NodeId;
+use xf_name::Word;
+use xf_tree_changes::{
     add_text, change_texts, free_texts, keep_texts, make_room, size_of_texts, text_count, texts_in,
 };
-use xf_doc::NodeId;
-use xf_name::Word;
-use xf_rows::{Hints, Rows, end_of, slice};
-use xf_slots::Slots;
+use xf_tree_contents::Slots;
+use xf_tree_rows::{Hints, Rows, end_of, slice};
 
 /// The texts of an element and what another text makes of the counts.
 #[derive(Clone, Copy)]

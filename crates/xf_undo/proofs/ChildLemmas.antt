@@ -3,16 +3,16 @@ use Rattle.std.proofs.Common.{◌≡◌, ℕ, ◌==◌, Bool, true, false, not, 
 use Rattle.std.specs.Prelude.{filter}
 use Rattle.std.proofs.lemmas.Bool.{cases_Bool}
 use Rattle.std.proofs.lemmas.Bool.Decides.{nat_tests}
-use Rattle.xf_doc.specs.declared.content.Node.{Node}
-use Rattle.xf_doc.specs.declared.content.Content.{Content}
-use Rattle.xf_doc.specs.declared.content.Content.TheVariants.{Root, Element, Attribute, Text}
-use Rattle.xf_doc.specs.declared.content.Kind.{Kind}
-use Rattle.xf_doc.specs.Forest.{is_attribute, kind_of, kind_at, has_number}
-use Rattle.xf_doc.specs.Texts.{is_attribute_at}
-use Rattle.xf_doc.specs.Visit.{Visit, still_above, visits_from, visits, is_first, first_of, parent_of, has, children_of}
-use Rattle.xf_doc.specs.WellFormed.{are_apart}
+use Rattle.xf_def_forest.specs.declared.content.Node.{Node}
+use Rattle.xf_def_forest.specs.declared.content.Content.{Content}
+use Rattle.xf_def_forest.specs.declared.content.Content.TheVariants.{Root, Element, Attribute, Text}
+use Rattle.xf_def_forest.specs.declared.content.Kind.{Kind}
+use Rattle.xf_def_forest.specs.Forest.{is_attribute, kind_of, kind_at, has_number}
+use Rattle.xf_def_forest.specs.Texts.{is_attribute_at}
+use Rattle.xf_def_forest.specs.Visit.{Visit, still_above, visits_from, visits, is_first, first_of, parent_of, has, children_of}
+use Rattle.xf_def_forest.specs.WellFormed.{are_apart}
 use Rattle.xf_undo.specs.Children.{is_number, is_attribute_kind}
-use Rattle.xf_doc.proofs.BackLaws.{and-true, or-false, not-true, one_number, attribute-absent}
+use Rattle.xf_def_forest.proofs.BackLaws.{and-true, or-false, not-true, one_number, attribute-absent}
 
 -- ---- attributes
 

@@ -3,22 +3,22 @@ use Rattle.std.proofs.Common.{◌≡◌, ℕ, ◌+◌, ◌==◌, Bool, true, fal
 use Rattle.std.specs.Prelude.{if◌then◌else◌}
 use Rattle.std.specs.List.{list_any}
 use Rattle.std.proofs.lemmas.Bool.Decides.{nat_tests}
-use Rattle.xf_doc.specs.declared.content.Node.{Node}
-use Rattle.xf_doc.specs.declared.fault.TreeFault.{TreeFault}
-use Rattle.xf_doc.specs.Forest.{Forest, has_number, tree_of}
-use Rattle.xf_doc.specs.Visit.{has, numbers}
-use Rattle.xf_doc.specs.Limits.{Limits, limits, passed_by_text, unless}
-use Rattle.xf_doc.specs.Texts.{Keeping, KeptText, Before, attribute_text, element_texts, is_attribute_at, texts_in, value_in, kept_from, before_of, taken_from, new_texts, with_text as forest_with_text, given_up, text_set}
-use Rattle.xf_doc.specs.Settle.{reserved, IsFree, with_numbered_text, numbered_text_set}
-use Rattle.xf_doc.specs.Needs.{IsSettable, MayGiveUp, are_kept}
-use Rattle.xf_doc.specs.Undo.{Entry, Ledger, kept_at, of_text, with_note, with_set, is_known, text_filled, rolled_back}
-use Rattle.xf_doc.specs.Undo as undo
-use Rattle.xf_doc.specs.WellFormed.{AreTrees}
-use Rattle.xf_doc.proofs.SettleLaws.{numbered-is}
-use Rattle.xf_doc.proofs.FreeLaws.{or-parts, is_numbered, numbered-none, taken-none, both-kept, left-kept, fresh-nodes, fresh-kept}
-use Rattle.xf_rollback_laws.specs.Made.{Made, texts, with_new_text}
-use Rattle.xf_rollback_laws.proofs.Laws.{rolls_back}
-use Rattle.xf_rollback_laws.proofs.Outcomes.{unless-ok, set-forest}
+use Rattle.xf_def_forest.specs.declared.content.Node.{Node}
+use Rattle.xf_def_forest.specs.declared.fault.TreeFault.{TreeFault}
+use Rattle.xf_def_forest.specs.Forest.{Forest, has_number, tree_of}
+use Rattle.xf_def_forest.specs.Visit.{has, numbers}
+use Rattle.xf_def_forest.specs.Limits.{Limits, limits, passed_by_text, unless}
+use Rattle.xf_def_forest.specs.Texts.{Keeping, KeptText, Before, attribute_text, element_texts, is_attribute_at, texts_in, value_in, kept_from, before_of, taken_from, new_texts, with_text as forest_with_text, given_up, text_set}
+use Rattle.xf_def_forest.specs.Settle.{reserved, IsFree, with_numbered_text, numbered_text_set}
+use Rattle.xf_def_forest.specs.Needs.{IsSettable, MayGiveUp, are_kept}
+use Rattle.xf_def_forest.specs.Undo.{Entry, Ledger, kept_at, of_text, with_note, with_set, is_known, text_filled, rolled_back}
+use Rattle.xf_def_forest.specs.Undo as undo
+use Rattle.xf_def_forest.specs.WellFormed.{AreTrees}
+use Rattle.xf_def_forest.proofs.SettleLaws.{numbered-is}
+use Rattle.xf_def_forest.proofs.FreeLaws.{or-parts, is_numbered, numbered-none, taken-none, both-kept, left-kept, fresh-nodes, fresh-kept}
+use Rattle.xf_law_forests.specs.Rollback.Made.{Made, texts, with_new_text}
+use Rattle.xf_law_forests.proofs.RollbackLemmas.Laws.{rolls_back}
+use Rattle.xf_law_forests.proofs.RollbackLemmas.Outcomes.{unless-ok, set-forest}
 use Rattle.xf_undo.specs.Draft.{Draft, alone, kept_as, changed, with_text, with_settled, draft_of, AreFree}
 
 -- whatever was made since, the same forest is kept

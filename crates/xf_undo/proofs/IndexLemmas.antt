@@ -6,10 +6,10 @@ use Rattle.std.proofs.lemmas.Bool.{cases_Bool}
 use Rattle.std.proofs.lemmas.List.{reverse-append}
 use Rattle.std.specs.Map.{lookup}
 use Rattle.indexmap.specs.IndexMap.{IndexMap, get, spare, IsUnchanged, Updates}
-use Rattle.xf_doc.specs.Texts.{Keeping}
-use Rattle.xf_doc.specs.Undo as undo
-use Rattle.xf_doc.specs.Undo.{is_set_of, is_of_child, is_known}
-use Rattle.xf_doc.proofs.BackLaws.{and-true, or-false, false-true}
+use Rattle.xf_def_forest.specs.Texts.{Keeping}
+use Rattle.xf_def_forest.specs.Undo as undo
+use Rattle.xf_def_forest.specs.Undo.{is_set_of, is_of_child, is_known}
+use Rattle.xf_def_forest.proofs.BackLaws.{and-true, or-false, false-true}
 use Rattle.xf_undo.specs.declared.entry.Entry.{Entry}
 use Rattle.xf_undo.specs.Entries.{entry_of, entries_of, text_noted, placed_entry, attached_entry}
 use Rattle.xf_undo.specs.Index.{has_set, is_quiet, are_quiet, begins_noted, IsListed, IsIndexed}

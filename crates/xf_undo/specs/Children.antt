@@ -1,7 +1,7 @@
 -- Tests of a parent and of a kind.
 use Rattle.std.specs.Prelude.{ℕ, Bool, true, false, Option, Some, None, ◌==◌}
-use Rattle.xf_doc.specs.declared.content.Kind.{Kind}
-use Rattle.xf_doc.specs.declared.content.Kind.TheVariants.{Root, Element, Attribute, Text}
+use Rattle.xf_def_forest.specs.declared.content.Kind.{Kind}
+use Rattle.xf_def_forest.specs.declared.content.Kind.TheVariants.{Root, Element, Attribute, Text}
 
 -- this is the number
 abbrev pub is_number : Option ℕ → ℕ → Bool

@@ -1,12 +1,12 @@
 -- A forest as it was kept and as it stands.
 use Rattle.std.specs.Prelude.{ℕ, ◌≡◌, ◌<◌, ◌≤◌, false, List, [], ◌∷◌, ◌++◌, Result, Ok, Err}
-use Rattle.xf_doc.specs.declared.fault.TreeFault.{TreeFault}
-use Rattle.xf_doc.specs.Forest.{Forest}
-use Rattle.xf_doc.specs.Visit.{has}
-use Rattle.xf_doc.specs.Texts.{Keeping, Before}
-use Rattle.xf_doc.specs.Settle.{reserved, IsFree, with_numbered_text}
-use Rattle.xf_doc.specs.Undo.{Ledger, rolled_back}
-use Rattle.xf_rollback_laws.specs.Made.{Made}
+use Rattle.xf_def_forest.specs.declared.fault.TreeFault.{TreeFault}
+use Rattle.xf_def_forest.specs.Forest.{Forest}
+use Rattle.xf_def_forest.specs.Visit.{has}
+use Rattle.xf_def_forest.specs.Texts.{Keeping, Before}
+use Rattle.xf_def_forest.specs.Settle.{reserved, IsFree, with_numbered_text}
+use Rattle.xf_def_forest.specs.Undo.{Ledger, rolled_back}
+use Rattle.xf_law_forests.specs.Rollback.Made.{Made}
 
 pub record Draft : Type 0 where
   pub kept : Forest

@@ -1,6 +1,6 @@
 -- What the entries of a ledger stand for, and how the last one is filled in.
 use Rattle.std.specs.Prelude.{ℕ, List, map, reverse, Option, Some, None}
-use Rattle.xf_doc.specs.Undo as undo
+use Rattle.xf_def_forest.specs.Undo as undo
 use Rattle.xf_undo.specs.declared.entry.Change.{Change}
 use Rattle.xf_undo.specs.declared.entry.Change.TheVariants as change
 use Rattle.xf_undo.specs.declared.entry.Entry.{Entry}

@@ -2,8 +2,8 @@
 use Rattle.std.specs.Prelude.{ℕ, ◌≡◌, ◌≤◌, Bool, true, false, List, [], ◌∷◌, drop, None, is_some, nat_eq}
 use Rattle.std.specs.List.{list_any, list_all}
 use Rattle.indexmap.specs.IndexMap.{IndexMap, get, spare}
-use Rattle.xf_doc.specs.Undo as undo
-use Rattle.xf_doc.specs.Undo.{is_set_of}
+use Rattle.xf_def_forest.specs.Undo as undo
+use Rattle.xf_def_forest.specs.Undo.{is_set_of}
 use Rattle.xf_undo.specs.declared.entry.Entry.{Entry}
 use Rattle.xf_undo.specs.Entries.{entry_of, entries_of, text_noted}
 

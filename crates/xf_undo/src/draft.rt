@@ -1,19 +1,19 @@
 //! A forest that can be given back: it and the ledger of its changes.
 ghost use Rattle.std.specs.Prelude.{◌≡◌, ◌<◌, ◌^◌, [], OnOk, OnErr};
 ghost use Rattle.xf_base.specs.Gives.{Gives};
-ghost use Rattle.xf_doc.specs.Changes.{attached, copied, detached};
-ghost use Rattle.xf_doc.specs.Limits.{limits};
-ghost use Rattle.xf_doc.specs.Needs.{IsSettable, MayAttach, MayCopy, MayDetach};
-ghost use Rattle.xf_doc.specs.Planted.{planted, planted_bare};
-ghost use Rattle.xf_doc.specs.Texts.{text_set, without_detached};
-ghost use Rattle.xf_root_laws.specs.Roots.{AreAhead};
+ghost use Rattle.xf_def_forest.specs.Changes.{attached, copied, detached};
+ghost use Rattle.xf_def_forest.specs.Limits.{limits};
+ghost use Rattle.xf_def_forest.specs.Needs.{IsSettable, MayAttach, MayCopy, MayDetach};
+ghost use Rattle.xf_def_forest.specs.Planted.{planted, planted_bare};
+ghost use Rattle.xf_def_forest.specs.Texts.{text_set, without_detached};
+ghost use Rattle.xf_law_forests.specs.Root.Roots.{AreAhead};
 ghost use Rattle.xf_undo.specs.Draft.{kept_as, alone, changed, with_text, with_forest, with_tree, with_reserved, IsUnused, with_settled};
 
 use crate::entry::Change;
 use crate::ledger::Ledger;
 use std::alloc::{AllocError, Global};
 use std::marker::Model;
-use xf_doc::{Bare, NodeId, TreeFault};
+use xf_def_forest::{Bare, NodeId, TreeFault};
 use xf_name::{Lit, Prefixes};
 use xf_tree::Forest;
 

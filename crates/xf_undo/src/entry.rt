@@ -1,14 +1,14 @@
 //! What is noted of a change, and what is known of it.
 ghost use Rattle.std.specs.Prelude.{◌≡◌, true, [], option_map};
-ghost use Rattle.xf_doc.specs.Texts.{is_attribute_at};
-ghost use Rattle.xf_doc.specs.Undo.{is_of_child, is_set_of, is_known, undone, undone_all};
-ghost use Rattle.xf_doc.specs.Visit.{visits, has, children_of};
-ghost use Rattle.xf_doc.specs.WellFormed.{are_apart};
-ghost use Rattle.xf_rollback_laws.specs.Back.{CanUndo, CanUndoAll};
+ghost use Rattle.xf_def_forest.specs.Texts.{is_attribute_at};
+ghost use Rattle.xf_def_forest.specs.Undo.{is_of_child, is_set_of, is_known, undone, undone_all};
+ghost use Rattle.xf_def_forest.specs.Visit.{visits, has, children_of};
+ghost use Rattle.xf_def_forest.specs.WellFormed.{are_apart};
+ghost use Rattle.xf_law_forests.specs.Rollback.Back.{CanUndo, CanUndoAll};
 ghost use Rattle.xf_undo.specs.Children.{is_number, is_attribute_kind};
 ghost use Rattle.xf_undo.specs.Entries.{entry_of, entries_of, placed_entry, attached_entry, text_noted};
 
-use xf_doc::{Kind, NodeId};
+use xf_def_forest::{Kind, NodeId};
 use xf_tree::{Before, Forest};
 
 /// A change that is about to be made: a text set, a tree attached, a tree detached, each by its node.

@@ -1,12 +1,12 @@
 //! The ledger: what was changed since a forest was kept, and how it is undone.
 ghost use Rattle.std.specs.Prelude.{◌≡◌, ◌<◌, ◌∷◌, ◌++◌, [], true, drop, nat_eq, vec_len, vec_capacity, OnOk, OnErr};
-ghost use Rattle.xf_doc.specs.Needs.{MayGiveUp};
-ghost use Rattle.xf_doc.specs.Texts.{Keeping};
-ghost use Rattle.xf_doc.specs.Undo.{kept_at, with_note, text_filled, place_filled, attach_filled, rolled_back, is_known};
-ghost use Rattle.xf_doc.specs.WellFormed.{AreTrees};
-ghost use Rattle.xf_rollback_laws.specs.Back.{CanRollBack};
+ghost use Rattle.xf_def_forest.specs.Needs.{MayGiveUp};
+ghost use Rattle.xf_def_forest.specs.Texts.{Keeping};
+ghost use Rattle.xf_def_forest.specs.Undo.{kept_at, with_note, text_filled, place_filled, attach_filled, rolled_back, is_known};
+ghost use Rattle.xf_def_forest.specs.WellFormed.{AreTrees};
+ghost use Rattle.xf_law_forests.specs.Rollback.Back.{CanRollBack};
 ghost use Rattle.xf_undo.specs.Entries.{change_of, entries_of};
-ghost use Rattle.xf_rollback_laws.specs.Made.{Made};
+ghost use Rattle.xf_law_forests.specs.Rollback.Made.{Made};
 ghost use Rattle.xf_undo.specs.Index.{IsListed, are_quiet};
 
 use crate::entry::{
@@ -15,7 +15,7 @@ use crate::entry::{
 use indexmap::IndexMap;
 use std::alloc::{AllocError, Global};
 use std::marker::Model;
-use xf_doc::NodeId;
+use xf_def_forest::NodeId;
 use xf_tree::{Before, Forest};
 
 /// The changes since a forest was kept. Contracts see them the last one first.
@@ -33,8 +33,8 @@ pub struct Ledger {
 }
 
 impl Model for Ledger {
-    ghost use Rattle.xf_doc.specs.Texts.{Keeping};
-    ghost use Rattle.xf_doc.specs.Undo.{Ledger as Known};
+    ghost use Rattle.xf_def_forest.specs.Texts.{Keeping};
+    ghost use Rattle.xf_def_forest.specs.Undo.{Ledger as Known};
 
     ghost Value = { Known };
 

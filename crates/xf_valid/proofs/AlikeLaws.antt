@@ -4,15 +4,15 @@ use Rattle.std.specs.List.{list_all, list_any}
 use Rattle.std.specs.Bool.{OnFalse, OnTrue}
 use Rattle.std.proofs.lemmas.Bool.{OnTrue_at, OnTrue_from, eqb-true}
 use Rattle.std.proofs.lemmas.List.{get_or-set_same}
-use Rattle.xf_doc.specs.declared.content.Node.{Node}
-use Rattle.xf_doc.specs.Visit.{Visit, ancestors_of, has, visits}
-use Rattle.xf_model.specs.declared.property.Property.{Property}
-use Rattle.xf_model.specs.declared.property.Property.TheVariants.{Kind, Calculate, Relevant, Readonly, Required, Constraint}
-use Rattle.xf_model.specs.Applied.{Entry, is_property, place_of}
-use Rattle.xf_model.specs.Entries.{is_computed}
-use Rattle.xf_model.specs.Properties.{has_own, is_readonly, is_relevant, own, own_readonly, sets_on}
-use Rattle.xf_model.specs.Settled.{Valued}
-use Rattle.xf_ui.specs.declared.marks.Marks.{Marks}
+use Rattle.xf_def_forest.specs.declared.content.Node.{Node}
+use Rattle.xf_def_forest.specs.Visit.{Visit, ancestors_of, has, visits}
+use Rattle.xf_def_model.specs.declared.property.Property.{Property}
+use Rattle.xf_def_model.specs.declared.property.Property.TheVariants.{Kind, Calculate, Relevant, Readonly, Required, Constraint}
+use Rattle.xf_def_model.specs.Applied.{Entry, is_property, place_of}
+use Rattle.xf_def_model.specs.Entries.{is_computed}
+use Rattle.xf_def_model.specs.Properties.{has_own, is_readonly, is_relevant, own, own_readonly, sets_on}
+use Rattle.xf_def_model.specs.Settled.{Valued}
+use Rattle.xf_def_ui.specs.declared.marks.Marks.{Marks}
 use Rattle.xf_binds.specs.Alike.{AreAlike, is_shown}
 use Rattle.xf_binds.specs.Kept.{Kept, committed, no_kept, value_from, values_in, values_of}
 use Rattle.xf_binds.specs.Table.{all_committed, kept_at, truth_told, with_kept}

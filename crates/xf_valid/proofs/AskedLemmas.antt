@@ -3,15 +3,15 @@ use Rattle.std.proofs.Common.{◌≡◌, ℕ, Bool, true, false, cond, not, ◌&
 use Rattle.xf_num.specs.Written.{is_empty}
 use Rattle.xf_schema.specs.declared.written.Restriction.{Restriction}
 use Rattle.xf_schema.specs.Facets.{is_of_type}
-use Rattle.xf_ast.specs.declared.form.Bind.{Bind}
-use Rattle.xf_ast.specs.declared.form.Instance.{Instance}
-use Rattle.xf_doc.specs.declared.content.Node.{Node}
-use Rattle.xf_doc.specs.StringValue.{string_value}
-use Rattle.xf_doc.specs.Visit.{Visit, visits}
-use Rattle.xf_model.specs.declared.property.Property.{Property}
-use Rattle.xf_model.specs.declared.property.Property.TheVariants.{Kind, Required, Constraint}
-use Rattle.xf_model.specs.Rules.{Scope, rule_of}
-use Rattle.xf_model.specs.Properties.{meets_kind, own, sets_on}
+use Rattle.xf_def_syntax.specs.declared.form.Bind.{Bind}
+use Rattle.xf_def_syntax.specs.declared.form.Instance.{Instance}
+use Rattle.xf_def_forest.specs.declared.content.Node.{Node}
+use Rattle.xf_def_forest.specs.StringValue.{string_value}
+use Rattle.xf_def_forest.specs.Visit.{Visit, visits}
+use Rattle.xf_def_model.specs.declared.property.Property.{Property}
+use Rattle.xf_def_model.specs.declared.property.Property.TheVariants.{Kind, Required, Constraint}
+use Rattle.xf_def_model.specs.Rules.{Scope, rule_of}
+use Rattle.xf_def_model.specs.Properties.{meets_kind, own, sets_on}
 use Rattle.xf_binds.specs.declared.entry.Entry.{Entry}
 use Rattle.xf_binds.specs.Held.{entry_of, is_set}
 use Rattle.xf_binds.specs.Kept.{Kept, values_of}

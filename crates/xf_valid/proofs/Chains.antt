@@ -2,10 +2,10 @@
 use Rattle.std.proofs.Common.{◌≡◌, ℕ, ◌==◌, Bool, true, false, cond, not, ◌&&◌, ◌||◌, List, [], ◌∷◌, nat_lt, find, Some, None, refl, sym, ap, ◌∙◌, arith}
 use Rattle.std.proofs.lemmas.Bool.{eqb-true}
 use Rattle.std.proofs.lemmas.Bool.Decides.{nat_tests}
-use Rattle.xf_doc.specs.declared.content.Node.{Node}
-use Rattle.xf_doc.specs.Forest.{has_number}
-use Rattle.xf_doc.specs.Visit.{Visit, visit, visits, visits_from, still_above, numbers, first_of, above_in, ancestors_of, parent_of}
-use Rattle.xf_doc.specs.WellFormed.{are_apart}
+use Rattle.xf_def_forest.specs.declared.content.Node.{Node}
+use Rattle.xf_def_forest.specs.Forest.{has_number}
+use Rattle.xf_def_forest.specs.Visit.{Visit, visit, visits, visits_from, still_above, numbers, first_of, above_in, ancestors_of, parent_of}
+use Rattle.xf_def_forest.specs.WellFormed.{are_apart}
 
 -- each node that is open has the others behind it above it
 abbrev IsChain : List Visit → List Node → Type 0

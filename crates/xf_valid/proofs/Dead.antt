@@ -2,11 +2,11 @@
 use Rattle.std.proofs.Common.{◌≡◌, ℕ, Bool, true, false, cond, List, [], ◌∷◌, Some, None, refl, sym, ap, ◌∙◌}
 use Rattle.std.specs.Prelude.{find, ◌==◌, ◌||◌, ◌&&◌}
 use Rattle.std.specs.List.{list_all, list_any}
-use Rattle.xf_doc.specs.declared.content.Node.{Node}
-use Rattle.xf_doc.specs.Forest.{has_number}
-use Rattle.xf_doc.specs.Visit.{Visit, visit, visits, visits_from, still_above, above_in, ancestors_of}
-use Rattle.xf_model.specs.declared.property.Property.TheVariants.{Relevant}
-use Rattle.xf_model.specs.Properties.{own, own_readonly}
+use Rattle.xf_def_forest.specs.declared.content.Node.{Node}
+use Rattle.xf_def_forest.specs.Forest.{has_number}
+use Rattle.xf_def_forest.specs.Visit.{Visit, visit, visits, visits_from, still_above, above_in, ancestors_of}
+use Rattle.xf_def_model.specs.declared.property.Property.TheVariants.{Relevant}
+use Rattle.xf_def_model.specs.Properties.{own, own_readonly}
 use Rattle.xf_binds.specs.Kept.{Kept, values_in}
 use Rattle.xf_valid.specs.Nodes.{relevant_in, readonly_in}
 

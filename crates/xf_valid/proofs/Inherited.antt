@@ -1,12 +1,12 @@
 -- What a node has from its parent: that it is relevant, and that it is readonly.
 use Rattle.std.proofs.Common.{◌≡◌, ℕ, Bool, true, false, ◌&&◌, ◌||◌, List, Some, None, refl, ap, ◌∙◌}
 use Rattle.std.specs.List.{list_all, list_any}
-use Rattle.xf_doc.specs.declared.content.Node.{Node}
-use Rattle.xf_doc.specs.Forest.{has_number}
-use Rattle.xf_doc.specs.Visit.{visits, parent_of}
-use Rattle.xf_doc.specs.WellFormed.{are_apart}
-use Rattle.xf_model.specs.declared.property.Property.TheVariants.{Relevant}
-use Rattle.xf_model.specs.Properties.{own, own_readonly}
+use Rattle.xf_def_forest.specs.declared.content.Node.{Node}
+use Rattle.xf_def_forest.specs.Forest.{has_number}
+use Rattle.xf_def_forest.specs.Visit.{visits, parent_of}
+use Rattle.xf_def_forest.specs.WellFormed.{are_apart}
+use Rattle.xf_def_model.specs.declared.property.Property.TheVariants.{Relevant}
+use Rattle.xf_def_model.specs.Properties.{own, own_readonly}
 use Rattle.xf_binds.specs.Kept.{Kept, values_in}
 use Rattle.xf_valid.specs.Nodes.{relevant_in, readonly_in}
 use Rattle.xf_valid.proofs.Chains.{parent-chain, no-parent}

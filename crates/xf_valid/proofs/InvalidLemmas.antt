@@ -7,21 +7,21 @@ use Rattle.std.proofs.lemmas.Option.{slice_get-map, slice_get_read}
 use Rattle.xf_num.specs.Written.{is_empty}
 use Rattle.xf_schema.specs.declared.written.Restriction.{Restriction}
 use Rattle.xf_schema.specs.Facets.{is_of_type}
-use Rattle.xf_ast.specs.declared.form.Bind.{Bind}
-use Rattle.xf_ast.specs.declared.form.Instance.{Instance}
-use Rattle.xf_doc.specs.declared.content.Node.{Node}
-use Rattle.xf_doc.specs.Changes.{root_of}
-use Rattle.xf_doc.specs.Forest.{has_number, is_root}
-use Rattle.xf_doc.specs.Order.{in_order, instance_of}
-use Rattle.xf_doc.specs.StringValue.{string_value}
-use Rattle.xf_doc.specs.Visit.{Visit, visit, visits, visits_from, still_above, has, top_of}
-use Rattle.xf_doc.specs.WellFormed.{are_apart}
-use Rattle.xf_lang.specs.Binding.{as_list}
-use Rattle.xf_model.specs.declared.property.Property.{Property}
-use Rattle.xf_model.specs.declared.property.Property.TheVariants.{Kind, Required, Constraint}
-use Rattle.xf_model.specs.Applied.{Entry, is_property}
-use Rattle.xf_model.specs.Rules.{Rule, Scope, rule_of}
-use Rattle.xf_model.specs.Properties.{kind_of, meets_kind, sets_on, own}
+use Rattle.xf_def_syntax.specs.declared.form.Bind.{Bind}
+use Rattle.xf_def_syntax.specs.declared.form.Instance.{Instance}
+use Rattle.xf_def_forest.specs.declared.content.Node.{Node}
+use Rattle.xf_def_forest.specs.Changes.{root_of}
+use Rattle.xf_def_forest.specs.Forest.{has_number, is_root}
+use Rattle.xf_def_forest.specs.Order.{in_order, instance_of}
+use Rattle.xf_def_forest.specs.StringValue.{string_value}
+use Rattle.xf_def_forest.specs.Visit.{Visit, visit, visits, visits_from, still_above, has, top_of}
+use Rattle.xf_def_forest.specs.WellFormed.{are_apart}
+use Rattle.xf_def_xpath.specs.Binding.{as_list}
+use Rattle.xf_def_model.specs.declared.property.Property.{Property}
+use Rattle.xf_def_model.specs.declared.property.Property.TheVariants.{Kind, Required, Constraint}
+use Rattle.xf_def_model.specs.Applied.{Entry, is_property}
+use Rattle.xf_def_model.specs.Rules.{Rule, Scope, rule_of}
+use Rattle.xf_def_model.specs.Properties.{kind_of, meets_kind, sets_on, own}
 use Rattle.xf_binds.specs.Held.{is_seat}
 use Rattle.xf_binds.specs.Kept.{Kept, truth_from, values_of}
 use Rattle.xf_binds.specs.Table.{truth_told}

@@ -1,10 +1,10 @@
 -- String values in pieces: where there are several, the value is not empty.
 use Rattle.std.proofs.Common.{◌≡◌, ℕ, ◌==◌, false, List, [], ◌∷◌, map, filter, find, Option, Some, None, refl, sym, ap, ◌∙◌}
 use Rattle.xf_num.specs.Written.{is_empty}
-use Rattle.xf_doc.specs.Forest.{own_text}
-use Rattle.xf_doc.specs.Visit.{Visit}
-use Rattle.xf_doc.specs.StringValue.{text_below, string_value, has_character, pieces, pieces_in, whole}
-use Rattle.xf_doc.proofs.PieceLaws.{joined, pieces-value, whole-value}
+use Rattle.xf_def_forest.specs.Forest.{own_text}
+use Rattle.xf_def_forest.specs.Visit.{Visit}
+use Rattle.xf_def_forest.specs.StringValue.{text_below, string_value, has_character, pieces, pieces_in, whole}
+use Rattle.xf_def_forest.proofs.PieceLaws.{joined, pieces-value, whole-value}
 
 filled-joined : (ls : List (List ℕ)) → whole (filter has_character ls) ≡ None → is_empty (joined (filter has_character ls)) ≡ false
 filled-joined [] h = cc h

@@ -1,19 +1,19 @@
 -- Over data of one shape a node that is no text has the same nodes above it, and so the same properties.
 use Rattle.std.proofs.Common.{◌≡◌, ℕ, true, ◌∷◌, List, map, Option, Some, None, option_map, sym, ap, ◌∙◌}
 use Rattle.std.specs.List.{list_all, list_any}
-use Rattle.xf_doc.specs.Forest.{Forest}
-use Rattle.xf_doc.specs.Shape.{erased, shape, shape_of}
-use Rattle.xf_doc.specs.Visit.{Visit, above_in, ancestors_of, visits}
-use Rattle.xf_doc.specs.WellFormed.{HasTrees}
-use Rattle.xf_lang.specs.Agree.{untexted}
-use Rattle.xf_lang.specs.Asked.{found}
-use Rattle.xf_lang.proofs.ForestVisits.{forest-visits, found-erased}
-use Rattle.xf_lang.proofs.ShapeVisits.{shape-untexted}
-use Rattle.xf_lang.proofs.UntextedLaws.{solid-found}
-use Rattle.xf_model.specs.declared.property.Property.TheVariants.{Relevant}
-use Rattle.xf_model.specs.Properties.{own, own_readonly}
+use Rattle.xf_def_forest.specs.Forest.{Forest}
+use Rattle.xf_def_forest.specs.Shape.{erased, shape, shape_of}
+use Rattle.xf_def_forest.specs.Visit.{Visit, above_in, ancestors_of, visits}
+use Rattle.xf_def_forest.specs.WellFormed.{HasTrees}
+use Rattle.xf_def_xpath.specs.Agree.{untexted}
+use Rattle.xf_def_xpath.specs.Asked.{found}
+use Rattle.xf_def_xpath.proofs.ForestVisits.{forest-visits, found-erased}
+use Rattle.xf_def_xpath.proofs.ShapeVisits.{shape-untexted}
+use Rattle.xf_def_xpath.proofs.UntextedLaws.{solid-found}
+use Rattle.xf_def_model.specs.declared.property.Property.TheVariants.{Relevant}
+use Rattle.xf_def_model.specs.Properties.{own, own_readonly}
 use Rattle.xf_binds.specs.Kept.{Kept, values_in}
-use Rattle.xf_ui.specs.declared.marks.Marks.{Marks}
+use Rattle.xf_def_ui.specs.declared.marks.Marks.{Marks}
 use Rattle.xf_valid.specs.Nodes.{marks_in, required_in, valid_in}
 
 -- it stands there, and is no text

@@ -2,11 +2,11 @@
 use Rattle.std.proofs.Common.{◌≡◌, ℕ, zero, suc, ◌+◌, ◌<◌, ◌&&◌, Bool, true, false, List, [], ◌∷◌, ◌++◌, map, take, length, get_or, refl, sym, ap, ◌∙◌, subst, arith, take-suc}
 use Rattle.std.specs.List.{list_all}
 use Rattle.std.proofs.lemmas.List.{map-append}
-use Rattle.xf_doc.specs.declared.content.Node.{Node}
-use Rattle.xf_doc.specs.declared.node.NodeId.{NodeId}
-use Rattle.xf_doc.specs.Forest.{has_number}
+use Rattle.xf_def_forest.specs.declared.content.Node.{Node}
+use Rattle.xf_def_forest.specs.declared.node.NodeId.{NodeId}
+use Rattle.xf_def_forest.specs.Forest.{has_number}
 use Rattle.xf_binds.specs.Kept.{Kept}
-use Rattle.xf_ui.specs.declared.marks.Marks.{Marks}
+use Rattle.xf_def_ui.specs.declared.marks.Marks.{Marks}
 use Rattle.xf_valid.specs.declared.marks.Passed.{Passed}
 use Rattle.xf_valid.specs.Chain.{AreTold}
 use Rattle.xf_valid.specs.Nodes.{relevant_in, readonly_in}

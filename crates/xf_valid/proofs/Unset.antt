@@ -3,15 +3,15 @@ use Rattle.std.proofs.Common.{◌≡◌, ℕ, ◌<◌, length, Bool, true, false
 use Rattle.std.specs.Bool.{OnFalse}
 use Rattle.std.specs.List.{list_all, list_any}
 use Rattle.std.proofs.lemmas.Bool.{OnFalse_from}
-use Rattle.xf_doc.specs.declared.content.Node.{Node}
-use Rattle.xf_doc.specs.declared.node.NodeId.{NodeId}
-use Rattle.xf_doc.specs.Forest.{has_number}
-use Rattle.xf_doc.specs.Visit.{Visit, visits, ancestors_of, parent_of}
-use Rattle.xf_doc.specs.WellFormed.{are_apart}
-use Rattle.xf_model.specs.declared.property.Property.{Property}
-use Rattle.xf_model.specs.declared.property.Property.TheVariants.{Kind, Calculate, Relevant, Readonly}
-use Rattle.xf_model.specs.Applied.{is_property}
-use Rattle.xf_model.specs.Properties.{has_own, own, own_readonly}
+use Rattle.xf_def_forest.specs.declared.content.Node.{Node}
+use Rattle.xf_def_forest.specs.declared.node.NodeId.{NodeId}
+use Rattle.xf_def_forest.specs.Forest.{has_number}
+use Rattle.xf_def_forest.specs.Visit.{Visit, visits, ancestors_of, parent_of}
+use Rattle.xf_def_forest.specs.WellFormed.{are_apart}
+use Rattle.xf_def_model.specs.declared.property.Property.{Property}
+use Rattle.xf_def_model.specs.declared.property.Property.TheVariants.{Kind, Calculate, Relevant, Readonly}
+use Rattle.xf_def_model.specs.Applied.{is_property}
+use Rattle.xf_def_model.specs.Properties.{has_own, own, own_readonly}
 use Rattle.xf_binds.specs.Held.{is_set}
 use Rattle.xf_binds.specs.Kept.{Kept, values_in}
 use Rattle.xf_binds.specs.Table.{truth_told}

@@ -1,6 +1,6 @@
 -- What a node has from its parent.
 use Rattle.std.specs.Prelude.{◌≡◌, List, [], ◌∷◌}
-use Rattle.xf_doc.specs.declared.content.Node.{Node}
+use Rattle.xf_def_forest.specs.declared.content.Node.{Node}
 use Rattle.xf_binds.specs.Kept.{Kept}
 use Rattle.xf_valid.specs.declared.marks.Passed.{Passed}
 use Rattle.xf_valid.specs.Nodes.{relevant_in, readonly_in}

@@ -5,17 +5,17 @@ use Rattle.xf_num.specs.Written.{is_empty}
 use Rattle.xf_schema.specs.declared.written.NamedType.{NamedType}
 use Rattle.xf_schema.specs.declared.written.Restriction.{Restriction}
 use Rattle.xf_schema.specs.Facets.{is_of_type}
-use Rattle.xf_ast.specs.declared.form.Bind.{Bind}
-use Rattle.xf_ast.specs.declared.form.Instance.{Instance}
-use Rattle.xf_doc.specs.declared.content.Node.{Node}
-use Rattle.xf_doc.specs.Changes.{root_of}
-use Rattle.xf_doc.specs.Forest.{has_number}
-use Rattle.xf_doc.specs.Visit.{visits, has, top_of}
-use Rattle.xf_lang.specs.Binding.{as_list}
-use Rattle.xf_model.specs.Applied.{Entry}
-use Rattle.xf_model.specs.Rules.{Scope}
-use Rattle.xf_model.specs.declared.property.Property.TheVariants.{Kind, Required, Constraint}
-use Rattle.xf_model.specs.Properties.{is_valid, meets_kind, own, sets_on}
+use Rattle.xf_def_syntax.specs.declared.form.Bind.{Bind}
+use Rattle.xf_def_syntax.specs.declared.form.Instance.{Instance}
+use Rattle.xf_def_forest.specs.declared.content.Node.{Node}
+use Rattle.xf_def_forest.specs.Changes.{root_of}
+use Rattle.xf_def_forest.specs.Forest.{has_number}
+use Rattle.xf_def_forest.specs.Visit.{visits, has, top_of}
+use Rattle.xf_def_xpath.specs.Binding.{as_list}
+use Rattle.xf_def_model.specs.Applied.{Entry}
+use Rattle.xf_def_model.specs.Rules.{Scope}
+use Rattle.xf_def_model.specs.declared.property.Property.TheVariants.{Kind, Required, Constraint}
+use Rattle.xf_def_model.specs.Properties.{is_valid, meets_kind, own, sets_on}
 use Rattle.xf_binds.specs.Held.{entry_of, is_set}
 use Rattle.xf_binds.specs.Kept.{Kept, values_of}
 use Rattle.xf_valid.specs.declared.invalid.Asked.{Asked}

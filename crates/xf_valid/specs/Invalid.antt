@@ -2,12 +2,12 @@
 use Rattle.std.specs.Prelude.{ℕ, Bool, false, not, ◌&&◌, List, map, filter, Option, Some, None, option_map, option_and_then, slice_get, ◌==◌}
 use Rattle.xf_schema.specs.declared.written.Restriction.{Restriction}
 use Rattle.xf_schema.specs.Facets.{is_of_type}
-use Rattle.xf_ast.specs.declared.form.Instance.{Instance}
-use Rattle.xf_doc.specs.declared.content.Node.{Node}
-use Rattle.xf_doc.specs.Visit.{visits, top_of}
-use Rattle.xf_doc.specs.Order.{instance_of}
-use Rattle.xf_model.specs.Rules.{Scope}
-use Rattle.xf_model.specs.Properties.{is_valid}
+use Rattle.xf_def_syntax.specs.declared.form.Instance.{Instance}
+use Rattle.xf_def_forest.specs.declared.content.Node.{Node}
+use Rattle.xf_def_forest.specs.Visit.{visits, top_of}
+use Rattle.xf_def_forest.specs.Order.{instance_of}
+use Rattle.xf_def_model.specs.Rules.{Scope}
+use Rattle.xf_def_model.specs.Properties.{is_valid}
 use Rattle.xf_binds.specs.Kept.{Kept, values_of}
 
 abbrev pub is_model : ℕ → Option ℕ → Bool

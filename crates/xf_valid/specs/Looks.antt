@@ -1,8 +1,8 @@
 -- Which properties no entry sets, and what may still change from those above a node.
 use Rattle.std.specs.Prelude.{ℕ, ◌≡◌, Bool, not, ◌&&◌, ◌||◌, List, None}
 use Rattle.std.specs.Bool.{OnFalse}
-use Rattle.xf_model.specs.declared.property.Property.{Property}
-use Rattle.xf_model.specs.declared.property.Property.TheVariants.{Calculate, Relevant, Readonly}
+use Rattle.xf_def_model.specs.declared.property.Property.{Property}
+use Rattle.xf_def_model.specs.declared.property.Property.TheVariants.{Calculate, Relevant, Readonly}
 use Rattle.xf_binds.specs.Kept.{Kept}
 use Rattle.xf_binds.specs.Table.{truth_among}
 use Rattle.xf_valid.specs.declared.above.Looks.{Looks}

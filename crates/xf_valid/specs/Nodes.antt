@@ -2,11 +2,11 @@
 -- that the last revalidation found.
 use Rattle.std.specs.Prelude.{ℕ, Bool, not, List}
 use Rattle.std.specs.List.{list_any}
-use Rattle.xf_doc.specs.declared.content.Node.{Node}
-use Rattle.xf_doc.specs.Visit.{visits, has}
-use Rattle.xf_model.specs.Properties.{is_relevant, is_readonly, is_required}
+use Rattle.xf_def_forest.specs.declared.content.Node.{Node}
+use Rattle.xf_def_forest.specs.Visit.{visits, has}
+use Rattle.xf_def_model.specs.Properties.{is_relevant, is_readonly, is_required}
 use Rattle.xf_binds.specs.Kept.{Kept, values_in}
-use Rattle.xf_ui.specs.declared.marks.Marks.{Marks}
+use Rattle.xf_def_ui.specs.declared.marks.Marks.{Marks}
 
 abbrev pub relevant_in : List Kept → List Node → ℕ → Bool
 relevant_in table nodes n = is_relevant (visits nodes) (values_in table) n

@@ -2,18 +2,18 @@
 
 ghost use Rattle.std.specs.Prelude.{◌≡◌, ◌&&◌, ◌||◌, false, true};
 ghost use Rattle.std.specs.Bool.{OnFalse};
-ghost use Rattle.xf_doc.specs.Forest.{IsLive};
-ghost use Rattle.xf_model.specs.declared.property.Property.TheVariants.{Relevant};
-ghost use Rattle.xf_model.specs.Applied.{is_property};
-ghost use Rattle.xf_model.specs.Properties.{has_own, own, own_readonly};
+ghost use Rattle.xf_def_forest.specs.Forest.{IsLive};
+ghost use Rattle.xf_def_model.specs.declared.property.Property.TheVariants.{Relevant};
+ghost use Rattle.xf_def_model.specs.Applied.{is_property};
+ghost use Rattle.xf_def_model.specs.Properties.{has_own, own, own_readonly};
 ghost use Rattle.xf_binds.specs.Kept.{values_in};
 ghost use Rattle.xf_valid.specs.Looks.{AreLooks, IsUnset, is_open};
 ghost use Rattle.xf_valid.specs.Nodes.{readonly_in, relevant_in};
 
 use crate::nodes::{own, own_readonly};
 use xf_binds::Table;
-use xf_doc::NodeId;
-use xf_model::Property;
+use xf_def_forest::NodeId;
+use xf_def_model::Property;
 use xf_tree::Forest;
 
 /// Which of the properties that reach down to other nodes an entry may set: one that none sets is looked for on no node.

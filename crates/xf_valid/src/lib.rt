@@ -9,4 +9,4 @@ mod nodes;
 pub use invalid::revalidate;
 pub use marks::marks_of;
 pub use nodes::{is_required, is_valid, marks_at};
-pub use xf_ui::Marks;
+pub use xf_def_ui::Marks;

@@ -2,7 +2,7 @@
 
 ghost use Rattle.std.specs.Prelude.{◌≡◌, ◌&&◌, ◌||◌, true, map, IfOk};
 ghost use Rattle.std.specs.List.{list_all};
-ghost use Rattle.xf_doc.specs.Forest.{IsLive, has_number};
+ghost use Rattle.xf_def_forest.specs.Forest.{IsLive, has_number};
 ghost use Rattle.xf_valid.specs.Chain.{AreTold};
 ghost use Rattle.xf_valid.specs.Nodes.{marks_in, readonly_in, relevant_in};
 
@@ -10,10 +10,10 @@ use crate::above::inherited_by;
 use crate::nodes::{is_required, is_valid, own, own_readonly};
 use std::alloc::{AllocError, Global};
 use xf_binds::Table;
-use xf_doc::{NodeId, NodeList};
-use xf_model::Property;
+use xf_def_forest::{NodeId, NodeList};
+use xf_def_model::Property;
+use xf_def_ui::Marks;
 use xf_tree::Forest;
-use xf_ui::Marks;
 
 /// A node that was passed, with what those below it have from it.
 #[derive(Clone, Copy, Debug)]

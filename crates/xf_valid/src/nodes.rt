@@ -1,18 +1,18 @@
 //! The properties of one node (XForms 1.1, section 6.1).
 
 ghost use Rattle.std.specs.Prelude.{◌≡◌, false, Some};
-ghost use Rattle.xf_model.specs.Applied.{is_property};
-ghost use Rattle.xf_model.specs.Properties.{own, own_readonly};
+ghost use Rattle.xf_def_model.specs.Applied.{is_property};
+ghost use Rattle.xf_def_model.specs.Properties.{own, own_readonly};
 ghost use Rattle.xf_binds.specs.Kept.{values_in};
 ghost use Rattle.xf_binds.specs.Table.{truth_told};
 ghost use Rattle.xf_valid.specs.Nodes.{marks_in, required_in, valid_in};
 
 use crate::above::{inherited_by, own_where};
 use xf_binds::Table;
-use xf_doc::NodeId;
-use xf_model::Property;
+use xf_def_forest::NodeId;
+use xf_def_model::Property;
+use xf_def_ui::Marks;
 use xf_tree::Forest;
-use xf_ui::Marks;
 
 /// Whether it is required (section 6.1.3).
 pub fn is_required(table: &Table, node: NodeId) -> bool

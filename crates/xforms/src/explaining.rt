@@ -4,7 +4,7 @@
 use std::io::Read;
 use std::{fs, io};
 use xf_base::limits::FORM_LIMIT;
-use xf_explain::explain;
+use xf_form_explain::explain;
 
 /// The file of the form.
 pub const FORM: &str = "form.json";

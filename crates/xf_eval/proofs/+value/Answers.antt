@@ -1,23 +1,23 @@
 use Rattle.std.proofs.Common.{◌≡◌, ◌++◌, ◌*◌, suc, ◌+◌, ◌-◌, ◌<◌, ◌≤◌, inl, inr, [], ◌∷◌, drop, take, Some, None, option_map, true, false, length, map, refl, sym, ap, ◌∙◌, subst, arith, rules, tests}
 use denote.Param.Weighed.{most}
 use Rattle.std.proofs.lemmas.Result.{err_from_is_err_and}
-use Rattle.xf_ast.specs.declared.expr.Expr.{size-Expr}
-use Rattle.xf_ast.specs.declared.expr.Link.{size-Link}
-use Rattle.xf_ast.specs.declared.expr.Step.{size-Step}
+use Rattle.xf_def_syntax.specs.declared.expr.Expr.{size-Expr}
+use Rattle.xf_def_syntax.specs.declared.expr.Link.{size-Link}
+use Rattle.xf_def_syntax.specs.declared.expr.Step.{size-Step}
 use Rattle.xf_funcs.specs.Called.{called}
-use Rattle.xf_lang.specs.declared.fault.EvalFault.TheVariants.{Long, Memory}
-use Rattle.xf_lang.specs.declared.value.Value.TheVariants.{Nodes, Text, Truth}
-use Rattle.xf_lang.specs.Comparisons.{compared}
-use Rattle.xf_lang.specs.Conversions.{string_of, truth_of}
-use Rattle.xf_lang.specs.Functions.{branched, plain_arguments}
-use Rattle.xf_lang.specs.Binding.{as_list}
-use Rattle.xf_lang.specs.Meaning.{focus_of, meaning, meaning_of_link, setting_of, walk_of}
-use Rattle.xf_lang.specs.Operators.{chained, linked}
-use Rattle.xf_doc.specs.Axis.{is_reverse}
-use Rattle.xf_doc.specs.Forest.{has_number}
-use Rattle.xf_plain_values.specs.Bounded.{◌>>=◌}
-use Rattle.xf_lang.specs.Steps.{begun_at, from_one, is_true_at, kept_by_all, kept_from, reached, walked}
-use Rattle.xf_lang.proofs.Equations.{meaning-Number}
+use Rattle.xf_def_xpath.specs.declared.fault.EvalFault.TheVariants.{Long, Memory}
+use Rattle.xf_def_xpath.specs.declared.value.Value.TheVariants.{Nodes, Text, Truth}
+use Rattle.xf_def_xpath.specs.Comparisons.{compared}
+use Rattle.xf_def_xpath.specs.Conversions.{string_of, truth_of}
+use Rattle.xf_def_xpath.specs.Functions.{branched, plain_arguments}
+use Rattle.xf_def_xpath.specs.Binding.{as_list}
+use Rattle.xf_def_xpath.specs.Meaning.{focus_of, meaning, meaning_of_link, setting_of, walk_of}
+use Rattle.xf_def_xpath.specs.Operators.{chained, linked}
+use Rattle.xf_def_forest.specs.Axis.{is_reverse}
+use Rattle.xf_def_forest.specs.Forest.{has_number}
+use Rattle.xf_def_values.specs.Bounded.{◌>>=◌}
+use Rattle.xf_def_xpath.specs.Steps.{begun_at, from_one, is_true_at, kept_by_all, kept_from, reached, walked}
+use Rattle.xf_def_xpath.proofs.Equations.{meaning-Number}
 use Rattle.xf_eval.specs.Taken.{taken}
 use Rattle.xf_eval.proofs.Ordered.{alone-is, forward-in_order, taken-none, taken-one}
 use Rattle.xf_eval.proofs.Positions.{first-asked, live-placed}

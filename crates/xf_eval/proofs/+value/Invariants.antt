@@ -1,11 +1,11 @@
 use Rattle.std.proofs.Common.{◌≡◌, ◌++◌, suc, map, drop, length, Option, option_map}
 use Rattle.xf_funcs.specs.Called.{called}
-use Rattle.xf_lang.specs.Conversions.{nodes_of, plain_of}
-use Rattle.xf_lang.specs.Meaning.{focus_of, meaning, meaning_of_link, setting_of, walk_of}
-use Rattle.xf_lang.specs.Operators.{chained}
-use Rattle.xf_plain_values.specs.declared.plain.Plain.{Plain}
-use Rattle.xf_lang.specs.Setting.{Meaning, ◌>>=◌, each, joined}
-use Rattle.xf_lang.specs.Steps.{from_one, kept_by_all, kept_from, walked}
+use Rattle.xf_def_xpath.specs.Conversions.{nodes_of, plain_of}
+use Rattle.xf_def_xpath.specs.Meaning.{focus_of, meaning, meaning_of_link, setting_of, walk_of}
+use Rattle.xf_def_xpath.specs.Operators.{chained}
+use Rattle.xf_def_values.specs.declared.plain.Plain.{Plain}
+use Rattle.xf_def_xpath.specs.Setting.{Meaning, ◌>>=◌, each, joined}
+use Rattle.xf_def_xpath.specs.Steps.{from_one, kept_by_all, kept_from, walked}
 use Rattle.xf_eval.specs.Live.{AllLive}
 use Rattle.xf_eval.proofs.Lists.{onto}
 use Rattle.xf_eval.proofs.+value.Given as goal

@@ -1,9 +1,9 @@
 use Rattle.std.proofs.Common.{ℕ, false, refl, ◌∙◌, arith, rules}
 use Rattle.xf_store.proofs.CalledLaws.{called-none}
-use Rattle.xf_form_machine.specs.Act.{act_within}
-use Rattle.xf_form_machine.specs.Update.{round}
-use Rattle.xf_form_machine.specs.Dispatch.{handle, dispatch}
-use Rattle.xf_form_machine.specs.Acting.{act_at}
+use Rattle.xf_def_machine.specs.Act.{act_within}
+use Rattle.xf_def_machine.specs.Update.{round}
+use Rattle.xf_def_machine.specs.Dispatch.{handle, dispatch}
+use Rattle.xf_def_machine.specs.Acting.{act_at}
 use Rattle.xf_actions.specs.Parts.{repetition_in, once_done}
 use Rattle.xf_actions.specs.Seen.{fired_of, acting_of, concluded_of}
 use Rattle.xf_actions.proofs.Flow.{refuses-then, refuses-any, same-refuses, same-runs, in_turn-step, in_turn-stop, in_turn-end, stopped, told-step, told-stop, told-end}

@@ -2,11 +2,11 @@ use Rattle.std.proofs.Common.{◌≡◌, ◌+◌, ◌-◌, ◌*◌, ◌^◌, tru
 use Rattle.xf_store.specs.declared.answers.Answer.{Answer}
 use Rattle.xf_store.specs.Replay.{Covers}
 use Rattle.xf_store.specs.Called.{Called}
-use Rattle.xf_form_machine.specs.Flow.{in_turn}
-use Rattle.xf_form_machine.specs.Acting.{act_at}
-use Rattle.xf_form_machine.specs.Act.{act_within}
-use Rattle.xf_form_machine.specs.Update.{rounds, round, update}
-use Rattle.xf_form_machine.specs.Dispatch.{handle, dispatch}
+use Rattle.xf_def_machine.specs.Flow.{in_turn}
+use Rattle.xf_def_machine.specs.Acting.{act_at}
+use Rattle.xf_def_machine.specs.Act.{act_within}
+use Rattle.xf_def_machine.specs.Update.{rounds, round, update}
+use Rattle.xf_def_machine.specs.Dispatch.{handle, dispatch}
 use Rattle.xf_actions.specs.Seen.{fired_of, acting_of}
 use Rattle.xf_actions.specs.Parts.{repetition_in, once_done, acted}
 use Rattle.xf_actions.proofs.Steps.{tested}

@@ -1,6 +1,6 @@
 use Rattle.std.proofs.Common.{rules}
-use Rattle.xf_lang.specs.Meaning.{meaning}
-use Rattle.xf_form_machine.specs.Acting.{act_at}
+use Rattle.xf_def_xpath.specs.Meaning.{meaning}
+use Rattle.xf_def_machine.specs.Acting.{act_at}
 use Rattle.xf_actions.specs.Seen.{acting_of}
 use Rattle.xf_actions.specs.Parts.{index_in}
 use Rattle.xf_actions.proofs.Flow.{reads-stopped}

@@ -1,4 +1,4 @@
-use Rattle.xf_form_machine.specs.Acting.{act_at}
+use Rattle.xf_def_machine.specs.Acting.{act_at}
 use Rattle.xf_actions.specs.Seen.{acting_of}
 use Rattle.xf_actions.specs.Parts.{index_in}
 use Rattle.xf_actions.proofs.Flow.{stopped, refuses-any}

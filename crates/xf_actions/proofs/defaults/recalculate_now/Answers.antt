@@ -1,5 +1,5 @@
-use Rattle.xf_form_machine.specs.Behave.{recalculate}
-use Rattle.xf_form_machine.specs.Update.{due_rebuild}
+use Rattle.xf_def_machine.specs.Behave.{recalculate}
+use Rattle.xf_def_machine.specs.Update.{due_rebuild}
 use Rattle.xf_actions.proofs.Flow.{refuses-then, stopped}
 use Rattle.xf_actions.proofs.defaults.recalculate_now.Goals as goal
 

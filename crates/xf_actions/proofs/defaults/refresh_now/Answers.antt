@@ -1,4 +1,4 @@
-use Rattle.xf_form_machine.specs.Update.{due_revalidation, refresh_cleared}
+use Rattle.xf_def_machine.specs.Update.{due_revalidation, refresh_cleared}
 use Rattle.xf_actions.specs.Told.{refreshed}
 use Rattle.xf_actions.proofs.Flow.{refuses-then, makes-stopped}
 use Rattle.xf_actions.proofs.defaults.refresh_now.Goals as goal

@@ -1,6 +1,6 @@
 use Rattle.std.proofs.Common.{Ok}
-use Rattle.xf_form_machine.specs.Behave.{revalidate}
-use Rattle.xf_form_machine.specs.Update.{due_recalculation}
+use Rattle.xf_def_machine.specs.Behave.{revalidate}
+use Rattle.xf_def_machine.specs.Update.{due_recalculation}
 use Rattle.xf_actions.proofs.Flow.{refuses-then, stopped}
 use Rattle.xf_actions.proofs.defaults.revalidate_now.Goals as goal
 

@@ -1,4 +1,4 @@
-use Rattle.xf_form_machine.specs.Acting.{act_at}
+use Rattle.xf_def_machine.specs.Acting.{act_at}
 use Rattle.xf_actions.specs.Seen.{acting_of, focus_of}
 use Rattle.xf_actions.specs.Parts.{delete_in}
 use Rattle.xf_actions.proofs.Flow.{makes-stopped, refuses-any}

@@ -1,5 +1,5 @@
 use Rattle.std.proofs.Common.{sym, ◌∙◌, rules}
-use Rattle.xf_form_machine.specs.Delete.{location_of}
+use Rattle.xf_def_machine.specs.Delete.{location_of}
 use Rattle.xf_actions.proofs.Rounds.{same-makes}
 use Rattle.xf_actions.proofs.Trees.{deleted-none, deleted-some}
 use Rattle.xf_actions.proofs.delete.deleted.Goals as goal

@@ -1,5 +1,5 @@
 use Rattle.std.proofs.Common.{◌∙◌, rules}
-use Rattle.xf_form_machine.specs.Delete.{location_of}
+use Rattle.xf_def_machine.specs.Delete.{location_of}
 use Rattle.xf_actions.proofs.Flow.{makes-stopped, refuses-any, one-made}
 use Rattle.xf_actions.proofs.Rounds.{same-makes}
 use Rattle.xf_actions.proofs.Trees.{deleted-cut_stops, deleted-reindex_stops, deleted-quiet, deleted-told}

@@ -1,5 +1,5 @@
 use Rattle.std.proofs.Common.{◌≡◌, map, drop}
-use Rattle.xf_form_machine.specs.Flow.{in_turn}
+use Rattle.xf_def_machine.specs.Flow.{in_turn}
 use Rattle.xf_actions.specs.TreeChanges.{cut}
 use Rattle.xf_actions.proofs.delete.detach_all.Given as goal
 

@@ -1,6 +1,6 @@
 use Rattle.std.proofs.Common.{◌≡◌, map, drop}
-use Rattle.xf_form_machine.specs.Flow.{◌>>=◌}
-use Rattle.xf_form_machine.specs.Insert.{copies_of}
+use Rattle.xf_def_machine.specs.Flow.{◌>>=◌}
+use Rattle.xf_def_machine.specs.Insert.{copies_of}
 use Rattle.xf_actions.specs.Seen.{place_of}
 use Rattle.xf_actions.proofs.Trees.{behind}
 use Rattle.xf_actions.proofs.insert.copies.Given as goal

@@ -1,4 +1,4 @@
-use Rattle.xf_form_machine.specs.Tables.{insert_by}
+use Rattle.xf_def_machine.specs.Tables.{insert_by}
 use Rattle.xf_actions.specs.Seen.{acting_of, focus_of}
 use Rattle.xf_actions.proofs.Flow.{reads-stopped, refuses-any}
 use Rattle.xf_actions.proofs.Trees.{planned-stops, planned-no_origin, planned-no_place}

@@ -1,5 +1,5 @@
 use Rattle.std.proofs.Common.{map, drop, sym, ◌∙◌, arith}
-use Rattle.xf_form_machine.specs.Insert.{put_copy}
+use Rattle.xf_def_machine.specs.Insert.{put_copy}
 use Rattle.xf_actions.specs.Seen.{place_of}
 use Rattle.xf_actions.proofs.Flow.{stopped, same-refuses}
 use Rattle.xf_actions.proofs.Trees.{put-read, put-read_stop, put-short, put-end}

@@ -1,6 +1,6 @@
 use Rattle.std.proofs.Common.{◌≡◌, map, zip, drop}
-use Rattle.xf_form_machine.specs.Flow.{in_turn}
-use Rattle.xf_form_machine.specs.Insert.{put_copy}
+use Rattle.xf_def_machine.specs.Flow.{in_turn}
+use Rattle.xf_def_machine.specs.Insert.{put_copy}
 use Rattle.xf_actions.specs.Seen.{place_of}
 use Rattle.xf_actions.proofs.insert.put_copies.Given as goal
 

@@ -1,5 +1,5 @@
 use Rattle.std.proofs.Common.{◌≡◌, drop}
-use Rattle.xf_form_machine.specs.Flow.{in_turn}
+use Rattle.xf_def_machine.specs.Flow.{in_turn}
 use Rattle.xf_actions.proofs.Resets.{puts}
 use Rattle.xf_actions.proofs.reset.put_all_back.Given as goal
 

@@ -1,5 +1,5 @@
 use Rattle.std.proofs.Common.{◌∙◌, arith}
-use Rattle.xf_form_machine.specs.Update.{due_revalidation}
+use Rattle.xf_def_machine.specs.Update.{due_revalidation}
 use Rattle.xf_actions.proofs.Flow.{stopped, same-refuses}
 use Rattle.xf_actions.proofs.Rounds.{counted-step, counted-stop}
 use Rattle.xf_actions.proofs.round.behave_all.Goals as goal

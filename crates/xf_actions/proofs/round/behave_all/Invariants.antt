@@ -1,7 +1,7 @@
 use Rattle.std.proofs.Common.{◌≡◌, ◌-◌}
-use Rattle.xf_form_machine.specs.Flow.{in_turn}
-use Rattle.xf_form_machine.specs.Cycles.{counted_from}
-use Rattle.xf_form_machine.specs.Update.{due_revalidation}
+use Rattle.xf_def_machine.specs.Flow.{in_turn}
+use Rattle.xf_def_machine.specs.Cycles.{counted_from}
+use Rattle.xf_def_machine.specs.Update.{due_revalidation}
 use Rattle.xf_actions.specs.Told.{all_behaved}
 use Rattle.xf_actions.proofs.round.behave_all.Given as goal
 

@@ -1,4 +1,4 @@
-use Rattle.xf_form_machine.specs.Update.{due_rebuild}
+use Rattle.xf_def_machine.specs.Update.{due_rebuild}
 use Rattle.xf_actions.proofs.Flow.{refuses-then, stopped}
 use Rattle.xf_actions.proofs.round.recalculate_due.Goals as goal
 

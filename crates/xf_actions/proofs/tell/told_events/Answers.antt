@@ -1,5 +1,5 @@
 use Rattle.std.proofs.Common.{codes, rules}
-use Rattle.xf_form_machine.specs.Acting.{act_at}
+use Rattle.xf_def_machine.specs.Acting.{act_at}
 use Rattle.xf_actions.specs.Parts.{work_in}
 use Rattle.xf_actions.proofs.Flow.{same-reads}
 use Rattle.xf_actions.proofs.WorkKinds.{model-tells}

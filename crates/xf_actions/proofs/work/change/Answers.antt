@@ -1,5 +1,5 @@
 use Rattle.std.proofs.Common.{rules}
-use Rattle.xf_form_machine.specs.Acting.{act_at}
+use Rattle.xf_def_machine.specs.Acting.{act_at}
 use Rattle.xf_actions.specs.Seen.{acting_of}
 use Rattle.xf_actions.specs.Parts.{work_in}
 use Rattle.xf_actions.proofs.Flow.{makes-stopped}

@@ -1,6 +1,6 @@
 use Rattle.std.proofs.Common.{◌≡◌, ℕ, ◌==◌, ◌&&◌, ◌||◌, map, take}
-use Rattle.xf_doc.specs.declared.node.NodeId.{NodeId}
-use Rattle.xf_doc.specs.Visit.{has}
+use Rattle.xf_def_forest.specs.declared.node.NodeId.{NodeId}
+use Rattle.xf_def_forest.specs.Visit.{has}
 use Rattle.xf_binds.specs.Readers.{readers_at}
 use Rattle.xf_binds.proofs.readers.add_all.Given as goal
 

@@ -1,5 +1,5 @@
 use Rattle.std.proofs.Common.{◌≡◌, ◌==◌, ◌&&◌, ◌||◌, ◌∙◌, ap, sym, take, arith}
-use Rattle.xf_doc.specs.Visit.{has}
+use Rattle.xf_def_forest.specs.Visit.{has}
 use Rattle.xf_binds.specs.declared.web.Asks.{Asks}
 use Rattle.std.proofs.lemmas.List.{length-map}
 use Rattle.xf_binds.specs.Held.{Held, entries_in}

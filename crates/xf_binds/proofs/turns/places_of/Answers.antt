@@ -1,7 +1,7 @@
 use Rattle.std.proofs.Common.{◌≡◌, ◌+◌, ◌<◌, ◌++◌, [], ◌∷◌, length, take, sym, ap, ◌∙◌, arith}
 use Rattle.std.proofs.lemmas.List.{length-map}
 use Rattle.std.specs.Prelude.{slice_get}
-use Rattle.xf_model.specs.Settled.{calculates}
+use Rattle.xf_def_model.specs.Settled.{calculates}
 use Rattle.xf_binds.specs.Held.{Held, entries_in}
 use Rattle.xf_binds.specs.Placed.{is_calculate_at, places_from}
 use Rattle.xf_binds.proofs.Placings.{counted, one_if, places-next, plus-none}

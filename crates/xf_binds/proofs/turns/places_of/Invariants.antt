@@ -1,5 +1,5 @@
 use Rattle.std.proofs.Common.{◌≡◌, ◌≤◌, length, take}
-use Rattle.xf_model.specs.Settled.{calculates}
+use Rattle.xf_def_model.specs.Settled.{calculates}
 use Rattle.xf_binds.specs.Held.{entries_in}
 use Rattle.xf_binds.specs.Placed.{places_from}
 use Rattle.xf_binds.proofs.turns.places_of.Given as goal

@@ -1,5 +1,5 @@
 use Rattle.std.proofs.Common.{◌≡◌, map, take}
-use Rattle.xf_model.specs.Pertinent.{AllOf}
+use Rattle.xf_def_model.specs.Pertinent.{AllOf}
 use Rattle.xf_binds.specs.Held.{entries_in}
 use Rattle.xf_binds.specs.Placed.{IsSeatedIn, placed_of, placed_on}
 use Rattle.xf_binds.proofs.turns.turns_on.Given as goal

@@ -1,6 +1,6 @@
 use Rattle.std.proofs.Common.{ap, arith}
-use Rattle.xf_answers.specs.declared.lines.Ending.{Ending}
-use Rattle.xf_answers.specs.declared.lines.Ending.TheVariants.{ReadFault, SinkFault}
+use Rattle.xf_cli_stream.specs.declared.lines.Ending.{Ending}
+use Rattle.xf_cli_stream.specs.declared.lines.Ending.TheVariants.{ReadFault, SinkFault}
 use Rattle.xf_cli.specs.declared.status.Status.{Status}
 use Rattle.xf_cli.specs.declared.status.Status.TheVariants.{Answered}
 use Rattle.xf_cli.specs.Outside.{object_of}

@@ -1,5 +1,5 @@
 use Rattle.std.proofs.Common.{ap, map, refl, string_bytes, subst, sym, ◌∙◌}
-use Rattle.xf_loader.specs.Loading.{loaded_in}
+use Rattle.xf_form.specs.Loading.{loaded_in}
 use Rattle.xf_store.specs.Called.{Told}
 use Rattle.xf_cli.specs.Device.{device_of}
 use Rattle.xf_cli.specs.Outside.{Outside, object_of, stored_of}

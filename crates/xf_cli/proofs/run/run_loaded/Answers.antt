@@ -1,6 +1,6 @@
 use Rattle.std.proofs.Common.{refl}
-use Rattle.xf_processor.specs.Formed.{program_in}
-use Rattle.xf_work.specs.Standing.{state_of}
+use Rattle.xf_def_form.specs.Formed.{program_in}
+use Rattle.xf_engine_state.specs.Standing.{state_of}
 use Rattle.xf_cli.specs.Device.{device_of}
 use Rattle.xf_cli.specs.Finish.{Objects}
 use Rattle.xf_cli.specs.Outside.{object_of, stored_of}

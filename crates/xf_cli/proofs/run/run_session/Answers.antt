@@ -1,5 +1,5 @@
 use Rattle.std.proofs.Common.{ap, arith, refl}
-use Rattle.xf_answers.specs.declared.lines.Ending.TheVariants.{ReadFault, SinkFault, DiskFault}
+use Rattle.xf_cli_stream.specs.declared.lines.Ending.TheVariants.{ReadFault, SinkFault, DiskFault}
 use Rattle.xf_cli.specs.Outside.{object_of}
 use Rattle.xf_cli.proofs.Ends.{ending_or}
 use Rattle.xf_cli.proofs.SessionRuns.{runs_so}

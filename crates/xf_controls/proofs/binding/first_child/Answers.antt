@@ -1,5 +1,5 @@
 use Rattle.std.proofs.Common.{ap, ◌∙◌}
-use Rattle.xf_doc.specs.Visit.{first_of}
+use Rattle.xf_def_forest.specs.Visit.{first_of}
 use Rattle.xf_controls.proofs.NodeLaws.{first-yielded}
 use Rattle.xf_controls.proofs.binding.first_child.Goals as goal
 

@@ -1,10 +1,10 @@
 use Rattle.std.proofs.Common.{◌≡◌, [], ◌∷◌, inl, inr, Some, option_map, ap, sym, ◌∙◌}
 use Rattle.xf_name.specs.declared.axis.Axis.TheVariants.{Child}
-use Rattle.xf_doc.specs.Axis.{axis_of}
-use Rattle.xf_doc.specs.Visit.{first_of, parent_of, visits}
-use Rattle.xf_doc.proofs.LiveLaws.{axis-all_live}
-use Rattle.xf_nested.specs.StandIns.{stand_ins_of}
-use Rattle.xf_nested.proofs.StandInLaws.{stand-attribute, stand-element, stand-root, stand-text}
+use Rattle.xf_def_forest.specs.Axis.{axis_of}
+use Rattle.xf_def_forest.specs.Visit.{first_of, parent_of, visits}
+use Rattle.xf_def_forest.proofs.LiveLaws.{axis-all_live}
+use Rattle.xf_eval_context.specs.Nested.StandIns.{stand_ins_of}
+use Rattle.xf_eval_context.proofs.NestedLemmas.StandInLaws.{stand-attribute, stand-element, stand-root, stand-text}
 use Rattle.xf_controls.specs.Seen.{number}
 use Rattle.xf_controls.proofs.NodeLaws.{first-listed, live-first, live-parent, there}
 use Rattle.xf_controls.proofs.binding.stands_for.Goals as goal

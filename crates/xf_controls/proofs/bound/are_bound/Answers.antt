@@ -1,5 +1,5 @@
 use Rattle.std.proofs.Common.{refl, subst}
-use Rattle.xf_ui.specs.Interface.{interface_of}
+use Rattle.xf_def_ui.specs.Interface.{interface_of}
 use Rattle.xf_controls.specs.Bound.{AllBound}
 use Rattle.xf_controls.proofs.BoundLaws.{bound-all, bound-more, bound-other}
 use Rattle.xf_controls.proofs.ShownLaws.{from-false, from-true}

@@ -1,7 +1,7 @@
 use Rattle.std.proofs.Common.{◌≡◌, ◌+◌, ◌-◌, suc, drop, sym, ap, ◌∙◌, arith}
 use Rattle.std.specs.Prelude.{◌||◌}
 use Rattle.std.proofs.lemmas.List.{drop_all}
-use Rattle.xf_ui.specs.Interface.{interface_of}
+use Rattle.xf_def_ui.specs.Interface.{interface_of}
 use Rattle.xf_controls.specs.Below.{shows, some_shown}
 use Rattle.xf_controls.proofs.CodeLaws.{shows-control, shows-none, shows-parts, shown-more}
 use Rattle.xf_controls.proofs.element.+shown.Goals as goal

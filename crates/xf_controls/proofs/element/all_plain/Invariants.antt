@@ -1,7 +1,7 @@
 use Rattle.std.proofs.Common.{◌≡◌, drop, map}
 use Rattle.std.specs.List.{list_all}
-use Rattle.xf_ast.specs.Ordered.{numbered_from}
-use Rattle.xf_ui.specs.Interface.{element_of, interface_of}
+use Rattle.xf_def_syntax.specs.Ordered.{numbered_from}
+use Rattle.xf_def_ui.specs.Interface.{element_of, interface_of}
 use Rattle.xf_controls.specs.Plain.{stands_plainly}
 use Rattle.xf_controls.proofs.element.all_plain.Given as goal
 

@@ -2,8 +2,8 @@ use Rattle.std.proofs.Common.{◌+◌, drop, sym, ap, ◌∙◌}
 use Rattle.std.specs.Prelude.{◌&&◌}
 use Rattle.std.specs.List.{flat_map}
 use Rattle.std.proofs.lemmas.List.{drop_all}
-use Rattle.xf_ast.specs.Ordered.{child_in}
-use Rattle.xf_ui.specs.Interface.{interface_of}
+use Rattle.xf_def_syntax.specs.Ordered.{child_in}
+use Rattle.xf_def_ui.specs.Interface.{interface_of}
 use Rattle.xf_controls.specs.Plain.{are_children}
 use Rattle.xf_controls.proofs.CodeLaws.{children-more}
 use Rattle.xf_controls.proofs.element.are_children.Goals as goal

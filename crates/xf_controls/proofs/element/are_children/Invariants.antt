@@ -1,7 +1,7 @@
 use Rattle.std.proofs.Common.{◌≡◌, drop}
 use Rattle.std.specs.List.{flat_map}
-use Rattle.xf_ast.specs.Ordered.{child_in}
-use Rattle.xf_ui.specs.Interface.{interface_of}
+use Rattle.xf_def_syntax.specs.Ordered.{child_in}
+use Rattle.xf_def_ui.specs.Interface.{interface_of}
 use Rattle.xf_controls.specs.Plain.{are_children}
 use Rattle.xf_controls.proofs.element.are_children.Given as goal
 

@@ -1,6 +1,6 @@
 use Rattle.std.proofs.Common.{sym, ap}
-use Rattle.xf_ast.specs.Ordered.{is_parent}
-use Rattle.xf_ui.specs.Interface.{Element}
+use Rattle.xf_def_syntax.specs.Ordered.{is_parent}
+use Rattle.xf_def_ui.specs.Interface.{Element}
 use Rattle.xf_controls.proofs.CodeLaws.{no-element}
 use Rattle.xf_controls.proofs.element.has_parent.Goals as goal
 

@@ -1,5 +1,5 @@
 use Rattle.std.proofs.Common.{sym, ap}
-use Rattle.xf_ui.specs.Interface.{Element}
+use Rattle.xf_def_ui.specs.Interface.{Element}
 use Rattle.xf_controls.specs.Plain.{is_top}
 use Rattle.xf_controls.proofs.CodeLaws.{no-element}
 use Rattle.xf_controls.proofs.element.is_first_alone.Goals as goal

@@ -1,6 +1,6 @@
-use Rattle.xf_ui.specs.Elements.{element_at}
-use Rattle.xf_ui.specs.Interface.{interface_of}
-use Rattle.xf_bound_laws.specs.Fixed.{IsFixedElement}
+use Rattle.xf_def_ui.specs.Elements.{element_at}
+use Rattle.xf_def_ui.specs.Interface.{interface_of}
+use Rattle.xf_law_bindings.specs.Fixed.{IsFixedElement}
 use Rattle.xf_controls.proofs.FixedLaws.{all-get}
 use Rattle.xf_controls.proofs.NotedLaws.{fixed-element}
 use Rattle.xf_controls.proofs.finding.are_fixed.Goals as goal

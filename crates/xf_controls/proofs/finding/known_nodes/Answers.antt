@@ -1,6 +1,6 @@
 use Rattle.std.proofs.Common.{[], subst}
-use Rattle.xf_ui.specs.Copies.{no_marks}
-use Rattle.xf_ui.specs.Interface.{interface_of}
+use Rattle.xf_def_ui.specs.Copies.{no_marks}
+use Rattle.xf_def_ui.specs.Interface.{interface_of}
 use Rattle.xf_controls.specs.Known.{AreNoted}
 use Rattle.xf_controls.specs.Surrounded.{around_in}
 use Rattle.xf_controls.proofs.KnownLaws.{nothing-known}

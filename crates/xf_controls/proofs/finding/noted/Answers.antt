@@ -1,6 +1,6 @@
 use Rattle.std.proofs.Common.{sym, ◌∙◌, subst}
 use Rattle.std.proofs.lemmas.List.{with_items_is}
-use Rattle.xf_ui.specs.Interface.{interface_of}
+use Rattle.xf_def_ui.specs.Interface.{interface_of}
 use Rattle.xf_controls.specs.Known.{AreNoted, IsNoted}
 use Rattle.xf_controls.proofs.NotedLaws.{noted-length, noted-more}
 use Rattle.xf_controls.proofs.finding.noted.Goals as goal

@@ -1,4 +1,4 @@
-use Rattle.xf_ui.specs.Interface.{interface_of}
+use Rattle.xf_def_ui.specs.Interface.{interface_of}
 use Rattle.xf_controls.specs.Known.{AreNoted}
 use Rattle.xf_controls.proofs.finding.noted.Given as goal
 

@@ -1,5 +1,5 @@
 use Rattle.std.proofs.Common.{drop}
-use Rattle.xf_model.specs.Pertinent.{AllOf}
+use Rattle.xf_def_model.specs.Pertinent.{AllOf}
 use Rattle.xf_controls.specs.Fixed.{IsPlaceStep}
 use Rattle.xf_controls.proofs.fixed.are_place_steps.Given as goal
 

@@ -1,6 +1,6 @@
 use Rattle.std.proofs.Common.{subst}
-use Rattle.xf_model.specs.Pertinent.{AllOf}
-use Rattle.xf_bound_laws.specs.Fixed.{IsPlace}
+use Rattle.xf_def_model.specs.Pertinent.{AllOf}
+use Rattle.xf_law_bindings.specs.Fixed.{IsPlace}
 use Rattle.xf_controls.specs.Fixed.{IsPlaceStep}
 use Rattle.xf_controls.proofs.FixedLaws.{from-place, path-place}
 use Rattle.xf_controls.proofs.fixed.is_place.Goals as goal

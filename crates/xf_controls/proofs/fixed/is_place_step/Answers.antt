@@ -1,5 +1,5 @@
 use Rattle.std.proofs.Common.{sym, ◌∙◌, subst}
-use Rattle.xf_model.specs.Pertinent.{AllOf}
+use Rattle.xf_def_model.specs.Pertinent.{AllOf}
 use Rattle.xf_controls.specs.Fixed.{IsWritten}
 use Rattle.xf_controls.proofs.FixedLaws.{step-place}
 use Rattle.xf_controls.proofs.fixed.is_place_step.Goals as goal

@@ -1,5 +1,5 @@
 use Rattle.std.proofs.Common.{[], ap}
-use Rattle.xf_lang.specs.Binding.{as_list}
+use Rattle.xf_def_xpath.specs.Binding.{as_list}
 use Rattle.xf_eval.proofs.Lives.{live-is}
 use Rattle.xf_controls.proofs.handed.focus_in.Goals as goal
 

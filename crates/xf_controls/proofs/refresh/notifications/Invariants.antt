@@ -1,5 +1,5 @@
 use Rattle.std.proofs.Common.{◌≡◌, ◌++◌, drop, map}
-use Rattle.xf_ui.specs.Notifications.{notifications}
+use Rattle.xf_def_ui.specs.Notifications.{notifications}
 use Rattle.xf_controls.specs.Seen.{seen_copy, seen_notification}
 use Rattle.xf_controls.proofs.refresh.notifications.Given as goal
 

@@ -1,6 +1,6 @@
 use Rattle.std.proofs.Common.{map}
 use Rattle.std.proofs.lemmas.Result.{on_ok_weaker}
-use Rattle.xf_ui.specs.Notifications.{state_names, value_names}
+use Rattle.xf_def_ui.specs.Notifications.{state_names, value_names}
 use Rattle.std.specs.Prelude.{codes}
 use Rattle.xf_controls.specs.Seen.{seen_copy, seen_notification}
 use Rattle.xf_controls.proofs.ToldLaws.{told-five}

@@ -1,6 +1,6 @@
 use Rattle.std.proofs.Common.{◌≡◌, drop, map}
 use Rattle.std.specs.Prelude.{find}
-use Rattle.xf_ui.specs.Notifications.{is_same_copy}
+use Rattle.xf_def_ui.specs.Notifications.{is_same_copy}
 use Rattle.xf_controls.specs.Seen.{seen_copy}
 use Rattle.xf_controls.proofs.refresh.searched.Given as goal
 

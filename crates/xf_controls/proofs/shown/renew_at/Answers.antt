@@ -1,8 +1,8 @@
 use Rattle.std.proofs.Common.{◌≡◌, not, Some, [], ◌∷◌, ◌++◌, get_or, option_map, sym, ap, ◌∙◌, subst}
 use Rattle.std.proofs.lemmas.Result.{err_from_is_err_and}
-use Rattle.xf_lang.specs.declared.fault.EvalFault.TheVariants.{Long, Memory}
+use Rattle.xf_def_xpath.specs.declared.fault.EvalFault.TheVariants.{Long, Memory}
 use Rattle.xf_eval.proofs.Bounded.{part-long}
-use Rattle.xf_ui.specs.Notifications.{same_value}
+use Rattle.xf_def_ui.specs.Notifications.{same_value}
 use Rattle.xf_controls.specs.Former.{node_at, value_at, with_value_at}
 use Rattle.xf_controls.specs.Renewed.{value_over}
 use Rattle.xf_controls.specs.Seen.{IsThere, number}

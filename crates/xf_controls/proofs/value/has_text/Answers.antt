@@ -1,5 +1,5 @@
 use Rattle.std.proofs.Common.{sym, ◌∙◌}
-use Rattle.xf_doc.specs.Visit.{visits}
+use Rattle.xf_def_forest.specs.Visit.{visits}
 use Rattle.xf_controls.proofs.ShownLaws.{on-true, text-stays}
 use Rattle.xf_controls.proofs.value.has_text.Goals as goal
 

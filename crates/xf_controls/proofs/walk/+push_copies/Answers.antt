@@ -1,8 +1,8 @@
 use Rattle.std.proofs.Common.{rules, ◌≡◌, ◌-◌, ◌++◌, suc, map, option_map, ap, sym, ◌∙◌, arith}
 use Rattle.std.proofs.lemmas.Result.{err_from_is_err_and}
-use Rattle.xf_lang.specs.declared.fault.EvalFault.TheVariants.{Long, Memory}
+use Rattle.xf_def_xpath.specs.declared.fault.EvalFault.TheVariants.{Long, Memory}
 use Rattle.xf_eval.proofs.Bounded.{part-long}
-use Rattle.xf_ui.specs.Interface.{element_of, interface_of}
+use Rattle.xf_def_ui.specs.Interface.{element_of, interface_of}
 use Rattle.xf_controls.specs.Below.{copies_from, of_parts}
 use Rattle.xf_controls.specs.Known.{IsReached}
 use Rattle.xf_controls.specs.Seen.{number, seen_copy, seen_handed}

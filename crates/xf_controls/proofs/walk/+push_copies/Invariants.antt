@@ -1,5 +1,5 @@
 use Rattle.std.proofs.Common.{◌≡◌, ◌-◌, ◌++◌, map, drop, option_map}
-use Rattle.xf_ui.specs.Interface.{interface_of}
+use Rattle.xf_def_ui.specs.Interface.{interface_of}
 use Rattle.xf_controls.specs.Below.{copies_from, of_parts}
 use Rattle.xf_controls.specs.Seen.{seen_copy, seen_handed}
 use Rattle.xf_controls.specs.Surrounded.{around_in}

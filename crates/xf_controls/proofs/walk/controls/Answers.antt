@@ -1,9 +1,9 @@
 use Rattle.std.proofs.Common.{map, sym, ap, ◌∙◌}
 use Rattle.std.proofs.lemmas.Result.{err_from_is_err_and}
-use Rattle.xf_lang.specs.declared.fault.EvalFault.TheVariants.{Long, Memory}
+use Rattle.xf_def_xpath.specs.declared.fault.EvalFault.TheVariants.{Long, Memory}
 use Rattle.xf_eval.proofs.Bounded.{part-long}
-use Rattle.xf_ui.specs.Copies.{copies}
-use Rattle.xf_ui.specs.Interface.{interface_of}
+use Rattle.xf_def_ui.specs.Copies.{copies}
+use Rattle.xf_def_ui.specs.Interface.{interface_of}
 use Rattle.xf_controls.specs.Seen.{seen_copy, seen_handed}
 use Rattle.xf_controls.specs.Surrounded.{around_in}
 use Rattle.xf_controls.proofs.KnownLaws.{reached-first}

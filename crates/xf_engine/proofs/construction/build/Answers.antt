@@ -1,8 +1,8 @@
 use Rattle.std.proofs.Common.{◌∙◌, ◌-◌, ◌<◌, arith}
 use Rattle.std.proofs.lemmas.Result.{err_from_is_err_and}
-use Rattle.xf_form_machine.specs.Construct.{build_model}
-use Rattle.xf_processor.specs.Formed.{profile}
-use Rattle.xf_work.specs.Standing.{state_of}
+use Rattle.xf_def_machine.specs.Construct.{build_model}
+use Rattle.xf_def_form.specs.Formed.{profile}
+use Rattle.xf_engine_state.specs.Standing.{state_of}
 use Rattle.xf_engine.specs.Constructed.{all_built}
 use Rattle.xf_engine.proofs.Flow.{counted-step, turn-stops}
 use Rattle.xf_engine.proofs.Keeps.{build-count}

@@ -1,9 +1,9 @@
 use Rattle.std.proofs.Common.{◌≡◌, ◌-◌, length}
-use Rattle.xf_form_machine.specs.Flow.{in_turn}
-use Rattle.xf_form_machine.specs.Cycles.{counted_from}
-use Rattle.xf_form_machine.specs.Construct.{build_model}
-use Rattle.xf_processor.specs.Formed.{profile}
-use Rattle.xf_work.specs.Standing.{state_of}
+use Rattle.xf_def_machine.specs.Flow.{in_turn}
+use Rattle.xf_def_machine.specs.Cycles.{counted_from}
+use Rattle.xf_def_machine.specs.Construct.{build_model}
+use Rattle.xf_def_form.specs.Formed.{profile}
+use Rattle.xf_engine_state.specs.Standing.{state_of}
 use Rattle.xf_engine.specs.Constructed.{all_built}
 use Rattle.xf_engine.proofs.construction.build.Given as goal
 

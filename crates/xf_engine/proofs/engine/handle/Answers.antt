@@ -1,8 +1,8 @@
 use Rattle.std.proofs.Common.{Some, ◌∙◌, ap, sym, true}
-use Rattle.xf_form_machine.specs.State.{State}
-use Rattle.xf_form_machine.specs.Step.{posted}
+use Rattle.xf_def_machine.specs.State.{State}
+use Rattle.xf_def_machine.specs.Step.{posted}
 use Rattle.xf_actions.proofs.Stores.{called-ahead, covers-same}
-use Rattle.xf_world.specs.State.{state_of}
+use Rattle.xf_engine_world.specs.State.{state_of}
 use Rattle.xf_engine.proofs.EngineLaws.{handled, unhandled, unwritten}
 use Rattle.xf_engine.proofs.engine.handle.Goals as goal
 

@@ -1,7 +1,7 @@
 use Rattle.xf_store.proofs.CalledLaws.{called-none}
 use Rattle.xf_actions.proofs.Flow.{same-runs, stopped}
 use Rattle.xf_actions.proofs.Stores.{called-behind, called-both, called-still, covers-before}
-use Rattle.xf_world.specs.State.{state_of}
+use Rattle.xf_engine_world.specs.State.{state_of}
 use Rattle.xf_engine.proofs.EventLaws.{activate-tells, activate-unnamed, activate-unsettled, activate-untaken, activate-untried}
 use Rattle.xf_engine.proofs.events.activate.Goals as goal
 

@@ -1,5 +1,5 @@
 use Rattle.xf_actions.proofs.Flow.{reads-stopped}
-use Rattle.xf_world.specs.State.{state_of}
+use Rattle.xf_engine_world.specs.State.{state_of}
 use Rattle.xf_engine.proofs.EventLaws.{activation-uncopied}
 use Rattle.xf_engine.proofs.events.activation.Goals as goal
 

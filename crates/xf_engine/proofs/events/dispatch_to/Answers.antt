@@ -1,6 +1,6 @@
 use Rattle.xf_store.proofs.CalledLaws.{called-none}
 use Rattle.xf_actions.proofs.Flow.{same-runs, stopped}
-use Rattle.xf_world.specs.State.{state_of}
+use Rattle.xf_engine_world.specs.State.{state_of}
 use Rattle.xf_engine.proofs.EventLaws.{dispatch-tells, dispatch-unnamed}
 use Rattle.xf_engine.proofs.events.dispatch_to.Goals as goal
 

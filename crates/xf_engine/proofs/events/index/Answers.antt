@@ -1,7 +1,7 @@
 use Rattle.xf_store.proofs.CalledLaws.{called-none}
 use Rattle.xf_actions.proofs.Flow.{same-runs, stopped}
 use Rattle.xf_actions.proofs.Stores.{called-behind, called-still}
-use Rattle.xf_world.specs.State.{state_of}
+use Rattle.xf_engine_world.specs.State.{state_of}
 use Rattle.xf_engine.proofs.EventLaws.{index-settles, index-unnamed, index-unset, index-untried}
 use Rattle.xf_engine.proofs.RowLaws.{around-as}
 use Rattle.xf_engine.proofs.events.index.Goals as goal

@@ -1,5 +1,5 @@
 use Rattle.xf_actions.proofs.Flow.{reads-stopped}
-use Rattle.xf_world.specs.State.{state_of}
+use Rattle.xf_engine_world.specs.State.{state_of}
 use Rattle.xf_engine.proofs.EventLaws.{node-uncopied}
 use Rattle.xf_engine.proofs.events.node_to_set.Goals as goal
 

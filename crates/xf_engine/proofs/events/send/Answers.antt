@@ -1,6 +1,6 @@
 use Rattle.xf_store.proofs.CalledLaws.{called-none}
 use Rattle.xf_actions.proofs.Flow.{same-runs, stopped}
-use Rattle.xf_world.specs.State.{state_of}
+use Rattle.xf_engine_world.specs.State.{state_of}
 use Rattle.xf_engine.proofs.EventLaws.{send-tells, send-unnamed}
 use Rattle.xf_engine.proofs.events.send.Goals as goal
 

@@ -2,7 +2,7 @@ use Rattle.std.proofs.Common.{◌∙◌}
 use Rattle.xf_store.proofs.CalledLaws.{called-none}
 use Rattle.xf_actions.proofs.Flow.{same-runs, stopped}
 use Rattle.xf_actions.proofs.Stores.{called-behind, called-still}
-use Rattle.xf_world.specs.State.{state_of}
+use Rattle.xf_engine_world.specs.State.{state_of}
 use Rattle.xf_engine.proofs.EventLaws.{set-settles, set-unnamed, set-unset, set-untaken, set-untried}
 use Rattle.xf_engine.proofs.events.set.Goals as goal
 

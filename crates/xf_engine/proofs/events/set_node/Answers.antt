@@ -1,9 +1,9 @@
-use Rattle.xf_doc.specs.Shape.{has_elements}
-use Rattle.xf_form_machine.specs.Primitives.{set_text}
-use Rattle.xf_form_machine.specs.Surround.{all_in}
-use Rattle.xf_processor.specs.Formed.{profile}
+use Rattle.xf_def_forest.specs.Shape.{has_elements}
+use Rattle.xf_def_machine.specs.Primitives.{set_text}
+use Rattle.xf_def_machine.specs.Surround.{all_in}
+use Rattle.xf_def_form.specs.Formed.{profile}
 use Rattle.xf_actions.proofs.Flow.{same-runs, stopped}
-use Rattle.xf_world.specs.State.{state_of}
+use Rattle.xf_engine_world.specs.State.{state_of}
 use Rattle.xf_engine.proofs.EventLaws.{parent-allows, parent-refuses}
 use Rattle.xf_engine.proofs.events.set_node.Goals as goal
 

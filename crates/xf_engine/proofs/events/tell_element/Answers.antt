@@ -1,5 +1,5 @@
 use Rattle.xf_actions.proofs.Flow.{same-runs}
-use Rattle.xf_world.specs.State.{state_of}
+use Rattle.xf_engine_world.specs.State.{state_of}
 use Rattle.xf_engine.proofs.EventLaws.{told-in}
 use Rattle.xf_engine.proofs.events.tell_element.Goals as goal
 

@@ -1,5 +1,5 @@
 use Rattle.std.proofs.Common.{sym, ◌∙◌}
-use Rattle.xf_world.specs.State.{state_of}
+use Rattle.xf_engine_world.specs.State.{state_of}
 use Rattle.xf_engine.proofs.NamingLaws.{first-model, other-model}
 use Rattle.xf_engine.proofs.naming.model.Goals as goal
 

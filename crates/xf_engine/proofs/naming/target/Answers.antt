@@ -1,5 +1,5 @@
 use Rattle.std.proofs.Common.{◌≡◌, Some, None, rules}
-use Rattle.xf_world.specs.State.{state_of}
+use Rattle.xf_engine_world.specs.State.{state_of}
 use Rattle.xf_engine.specs.Naming.{named_from}
 use Rattle.xf_engine.proofs.NamingLaws.{target-found, target-refuses}
 use Rattle.xf_engine.proofs.naming.target.Goals as goal

@@ -1,7 +1,7 @@
 use Rattle.std.proofs.Common.{◌≡◌, ◌<◌, length, arith}
 use Rattle.std.proofs.lemmas.Bool.Decides.{nat_tests}
 use Rattle.xf_actions.proofs.Flow.{same-runs, stopped}
-use Rattle.xf_world.specs.State.{state_of}
+use Rattle.xf_engine_world.specs.State.{state_of}
 use Rattle.xf_engine.proofs.RowLaws.{around-as, none-left, none-named, one-taken, untaken-refuses}
 use Rattle.xf_engine.proofs.rows.+take_each.Goals as goal
 

@@ -1,7 +1,7 @@
 use Rattle.std.proofs.Common.{ap, sym}
 use Rattle.xf_controls.specs.Seen.{seen_copy}
-use Rattle.xf_form_machine.specs.Targets.{takes_text}
-use Rattle.xf_world.specs.State.{state_of}
+use Rattle.xf_def_machine.specs.Targets.{takes_text}
+use Rattle.xf_engine_world.specs.State.{state_of}
 use Rattle.xf_engine.proofs.RowLaws.{no-sort}
 use Rattle.xf_engine.proofs.rows.takes_text.Goals as goal
 

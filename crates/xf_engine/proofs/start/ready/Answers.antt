@@ -1,8 +1,8 @@
 use Rattle.std.proofs.Common.{ap, refl}
-use Rattle.xf_form_machine.specs.State.{State}
+use Rattle.xf_def_machine.specs.State.{State}
 use Rattle.xf_actions.proofs.Flow.{refuses-none, stopped}
 use Rattle.xf_actions.proofs.Stores.{called-behind, called-both, covers-before}
-use Rattle.xf_world.specs.State.{state_of}
+use Rattle.xf_engine_world.specs.State.{state_of}
 use Rattle.xf_engine.proofs.StartLaws.{ready-all, ready-first, ready-second, ready-third}
 use Rattle.xf_engine.proofs.start.ready.Goals as goal
 

@@ -1,6 +1,6 @@
 use Rattle.xf_store.proofs.CalledLaws.{called-none}
 use Rattle.xf_actions.proofs.Flow.{refuses-any, same-runs, stopped}
-use Rattle.xf_world.specs.State.{state_of}
+use Rattle.xf_engine_world.specs.State.{state_of}
 use Rattle.xf_engine.proofs.EventLaws.{told-as}
 use Rattle.xf_engine.proofs.start.tell_model.Goals as goal
 

@@ -1,13 +1,13 @@
 use Rattle.std.proofs.Common.{◌∙◌, ap, arith}
 use Rattle.xf_store.proofs.CalledLaws.{called-none}
-use Rattle.xf_form_machine.specs.Cycles.{counted_from}
-use Rattle.xf_form_machine.specs.Flow.{in_turn}
-use Rattle.xf_form_machine.specs.Start.{tell_model}
-use Rattle.xf_processor.specs.Formed.{profile}
+use Rattle.xf_def_machine.specs.Cycles.{counted_from}
+use Rattle.xf_def_machine.specs.Flow.{in_turn}
+use Rattle.xf_def_machine.specs.Start.{tell_model}
+use Rattle.xf_def_form.specs.Formed.{profile}
 use Rattle.xf_actions.proofs.Flow.{same-refuses, stopped}
 use Rattle.xf_actions.proofs.Rounds.{counted-end, counted-step, counted-stop}
 use Rattle.xf_actions.proofs.Stores.{called-both, covers-before}
-use Rattle.xf_world.specs.State.{state_of}
+use Rattle.xf_engine_world.specs.State.{state_of}
 use Rattle.xf_engine.proofs.start.tell_models.Goals as goal
 
 pub loop-model-init : goal.loop-model-init

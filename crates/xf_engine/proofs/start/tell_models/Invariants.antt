@@ -2,11 +2,11 @@ use Rattle.std.proofs.Common.{◌≡◌, ◌-◌, List}
 use Rattle.xf_store.specs.declared.answers.Answer.{Answer}
 use Rattle.xf_store.specs.Replay.{Covers}
 use Rattle.xf_store.specs.Called.{Called}
-use Rattle.xf_form_machine.specs.Flow.{in_turn}
-use Rattle.xf_form_machine.specs.Cycles.{counted_from}
-use Rattle.xf_form_machine.specs.Start.{tell_model, tell_models}
-use Rattle.xf_processor.specs.Formed.{profile}
-use Rattle.xf_world.specs.State.{state_of}
+use Rattle.xf_def_machine.specs.Flow.{in_turn}
+use Rattle.xf_def_machine.specs.Cycles.{counted_from}
+use Rattle.xf_def_machine.specs.Start.{tell_model, tell_models}
+use Rattle.xf_def_form.specs.Formed.{profile}
+use Rattle.xf_engine_world.specs.State.{state_of}
 use Rattle.xf_engine.proofs.start.tell_models.Given as goal
 
 -- what is left of the models gives what all of them give, over all answers that cover the calls so far

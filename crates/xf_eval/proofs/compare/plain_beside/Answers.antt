@@ -1,7 +1,7 @@
 use Rattle.std.proofs.Common.{false, ◌∷◌, [], Some, option_map, sym, ap, ◌∙◌}
-use Rattle.xf_lang.specs.declared.fault.EvalFault.TheVariants.{Long, Memory}
-use Rattle.xf_lang.specs.Comparisons.{compared}
-use Rattle.xf_lang.specs.Conversions.{strings_of, value_of_plain}
+use Rattle.xf_def_xpath.specs.declared.fault.EvalFault.TheVariants.{Long, Memory}
+use Rattle.xf_def_xpath.specs.Comparisons.{compared}
+use Rattle.xf_def_xpath.specs.Conversions.{strings_of, value_of_plain}
 use Rattle.xf_eval.specs.Sides.{plain_on, some_beside, value_in}
 use Rattle.xf_eval.specs.Worth.{bare_setting, setting_in}
 use Rattle.xf_eval.proofs.Bounded.{gives-same}

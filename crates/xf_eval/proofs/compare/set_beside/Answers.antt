@@ -1,8 +1,8 @@
 use Rattle.std.proofs.Common.{true, Some, option_map, map, sym, ap, ◌∙◌}
-use Rattle.xf_lang.specs.declared.fault.EvalFault.TheVariants.{Long, Memory}
-use Rattle.xf_lang.specs.declared.value.Value.TheVariants.{Nodes}
-use Rattle.xf_lang.specs.Comparisons.{compared}
-use Rattle.xf_lang.specs.Conversions.{strings_of}
+use Rattle.xf_def_xpath.specs.declared.fault.EvalFault.TheVariants.{Long, Memory}
+use Rattle.xf_def_xpath.specs.declared.value.Value.TheVariants.{Nodes}
+use Rattle.xf_def_xpath.specs.Comparisons.{compared}
+use Rattle.xf_def_xpath.specs.Conversions.{strings_of}
 use Rattle.xf_eval.specs.Worth.{bare_setting, setting_in}
 use Rattle.xf_eval.specs.Sides.{plain_on, some_beside, value_in}
 use Rattle.xf_eval.proofs.Bounded.{gives-same}

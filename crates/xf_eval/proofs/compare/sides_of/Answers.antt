@@ -1,8 +1,8 @@
 use Rattle.std.proofs.Common.{map}
 use Rattle.xf_eval.specs.Sides.{plain_on}
 use Rattle.std.proofs.lemmas.Result.{err_from_is_err_and}
-use Rattle.xf_lang.specs.declared.fault.EvalFault.TheVariants.{Long, Memory}
-use Rattle.xf_plain_values.specs.declared.plain.Plain.TheVariants.{Text}
+use Rattle.xf_def_xpath.specs.declared.fault.EvalFault.TheVariants.{Long, Memory}
+use Rattle.xf_def_values.specs.declared.plain.Plain.TheVariants.{Text}
 use Rattle.xf_eval.proofs.Made.{text_made}
 use Rattle.xf_eval.proofs.Lists.{whole-long}
 use Rattle.xf_eval.proofs.Loops.{loop-stuck, loop-done}

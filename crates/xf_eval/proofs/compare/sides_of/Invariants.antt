@@ -1,5 +1,5 @@
 use Rattle.std.proofs.Common.{◌≡◌, map, drop}
-use Rattle.xf_lang.specs.Setting.{each}
+use Rattle.xf_def_xpath.specs.Setting.{each}
 use Rattle.xf_eval.specs.Sides.{plain_on}
 use Rattle.xf_eval.proofs.Lists.{onto}
 use Rattle.xf_eval.proofs.Made.{plain_made}

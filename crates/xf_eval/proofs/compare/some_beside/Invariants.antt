@@ -1,5 +1,5 @@
 use Rattle.std.proofs.Common.{◌≡◌, ◌||◌, map, drop, option_map}
-use Rattle.xf_lang.specs.Setting.{each}
+use Rattle.xf_def_xpath.specs.Setting.{each}
 use Rattle.xf_eval.specs.Sides.{some_beside}
 use Rattle.xf_eval.proofs.Made.{text_made}
 use Rattle.xf_eval.proofs.compare.some_beside.Given as goal

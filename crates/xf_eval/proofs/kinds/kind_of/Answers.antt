@@ -1,6 +1,6 @@
 use Rattle.std.proofs.Common.{◌≡◌, ℕ, ◌<◌, ◌≤◌, List, [], ◌∷◌, length, map, get_or, ap, ◌∙◌, refl, zero, suc, arith, rules, tests}
-use Rattle.xf_lang.specs.Table.{Function, function_at, functions}
-use Rattle.xf_lang.specs.Table as of
+use Rattle.xf_def_xpath.specs.Table.{Function, function_at, functions}
+use Rattle.xf_def_xpath.specs.Table as of
 use Rattle.xf_eval.specs.declared.kinds.Kind.{Kind}
 use Rattle.xf_eval.specs.declared.kinds.TheConstants.{KINDS}
 use Rattle.xf_eval.specs.Kinds.{function_in}

@@ -1,5 +1,5 @@
 use Rattle.std.proofs.Common.{sym, ap, ◌∙◌}
-use Rattle.xf_lang.specs.Tests.{meets}
+use Rattle.xf_def_xpath.specs.Tests.{meets}
 use Rattle.xf_eval.proofs.Sought.{names-asked, space-asked, all-asked}
 use Rattle.xf_eval.proofs.node_test.sought_of.Goals as goal
 

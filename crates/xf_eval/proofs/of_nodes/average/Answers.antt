@@ -1,6 +1,6 @@
 use Rattle.std.proofs.Common.{Some, ap, ◌∙◌, sym}
 use Rattle.xf_num.specs.Number.{quotient}
-use Rattle.xf_plain_values.specs.Conversions.{whole}
+use Rattle.xf_def_values.specs.Conversions.{whole}
 use Rattle.xf_eval.proofs.Numbers.{average-of}
 use Rattle.xf_eval.proofs.of_nodes.average.Goals as goal
 

@@ -1,5 +1,5 @@
 use Rattle.std.proofs.Common.{◌≡◌, ◌≤◌, map, drop}
-use Rattle.xf_lang.specs.Setting.{each}
+use Rattle.xf_def_xpath.specs.Setting.{each}
 use Rattle.xf_eval.proofs.Lists.{counted}
 use Rattle.xf_eval.proofs.Made.{text_made}
 use Rattle.xf_eval.proofs.of_nodes.filled_count.Given as goal

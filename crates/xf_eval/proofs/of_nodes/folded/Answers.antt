@@ -1,5 +1,5 @@
 use Rattle.std.proofs.Common.{ap, ◌∙◌, map, drop, ◌+◌}
-use Rattle.xf_doc.specs.declared.node.NodeId.{NodeId}
+use Rattle.xf_def_forest.specs.declared.node.NodeId.{NodeId}
 use Rattle.xf_eval.specs.Texts.{folded}
 use Rattle.xf_eval.proofs.Lives.{live-item}
 use Rattle.xf_eval.proofs.Runs.{fold-more}

@@ -1,7 +1,7 @@
 use Rattle.std.proofs.Common.{ap, ◌∙◌, option_map}
 use Rattle.std.proofs.lemmas.Result.{err_from_is_err_and}
-use Rattle.xf_lang.specs.declared.fault.EvalFault.TheVariants.{Long, Memory}
-use Rattle.xf_lang.specs.declared.value.Value.TheVariants.{Number}
+use Rattle.xf_def_xpath.specs.declared.fault.EvalFault.TheVariants.{Long, Memory}
+use Rattle.xf_def_xpath.specs.declared.value.Value.TheVariants.{Number}
 use Rattle.xf_eval.proofs.Bounded.{part-long}
 use Rattle.xf_eval.proofs.Numbers.{adding-worth, averaging-worth, greatest-worth, least-worth}
 use Rattle.xf_eval.proofs.of_nodes.of_nodes.Goals as goal

@@ -1,8 +1,8 @@
 use Rattle.std.proofs.Common.{◌≡◌, ◌++◌, ap, ◌∙◌, sym}
 use Rattle.std.proofs.lemmas.Result.{IfOk-weaker}
-use Rattle.xf_doc.specs.Visit.{visits}
-use Rattle.xf_lang.specs.Conversions.{nodes_of}
-use Rattle.xf_lang.specs.Setting.{in_order}
+use Rattle.xf_def_forest.specs.Visit.{visits}
+use Rattle.xf_def_xpath.specs.Conversions.{nodes_of}
+use Rattle.xf_def_xpath.specs.Setting.{in_order}
 use Rattle.xf_eval.proofs.Erased.{in_order-erased}
 use Rattle.xf_eval.proofs.Lives.{live-is, live-in_order}
 use Rattle.xf_eval.proofs.operators.united.Goals as goal

@@ -1,6 +1,6 @@
 use Rattle.std.proofs.Common.{◌<◌, length, ◌∙◌, sym, arith}
 use Rattle.std.proofs.lemmas.Result.{IfOk-weaker}
-use Rattle.xf_doc.specs.Visit.{visits}
+use Rattle.xf_def_forest.specs.Visit.{visits}
 use Rattle.xf_eval.proofs.Erased.{in_order-erased}
 use Rattle.xf_eval.proofs.Lives.{live-in_order, live-is}
 use Rattle.xf_eval.proofs.Ordered.{few-in_order}

@@ -1,6 +1,6 @@
 use Rattle.std.proofs.Common.{◌<◌, ap, ◌∙◌, sym, subst, arith}
 use Rattle.std.proofs.lemmas.Result.{IfOk-weaker}
-use Rattle.xf_lang.specs.Binding.{as_list}
+use Rattle.xf_def_xpath.specs.Binding.{as_list}
 use Rattle.xf_eval.specs.Places.{IsPosition}
 use Rattle.xf_eval.proofs.Positions.{before-place, live-placed, position-keeps}
 use Rattle.xf_eval.proofs.places.placed.Goals as goal

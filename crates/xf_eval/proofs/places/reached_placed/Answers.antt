@@ -1,7 +1,7 @@
 use Rattle.std.proofs.Common.{◌<◌, ap, ◌∙◌, sym, subst, arith}
 use Rattle.std.proofs.lemmas.Result.{IfOk-weaker}
-use Rattle.xf_lang.specs.Binding.{as_list}
-use Rattle.xf_lang.specs.Steps.{reached}
+use Rattle.xf_def_xpath.specs.Binding.{as_list}
+use Rattle.xf_def_xpath.specs.Steps.{reached}
 use Rattle.xf_eval.specs.Places.{IsPosition}
 use Rattle.xf_eval.specs.Worth.{seen}
 use Rattle.xf_eval.proofs.Lives.{reached-live}

@@ -2,10 +2,10 @@ use Rattle.std.proofs.Common.{◌≡◌, ℕ, List, ap, ◌∙◌, sym}
 use Rattle.std.specs.List.{flat_map}
 use Rattle.std.proofs.lemmas.Result.{IfOk-weaker}
 use Rattle.xf_name.specs.declared.axis.Axis.TheVariants.{DescendantOrSelf}
-use Rattle.xf_ast.specs.declared.expr.Test.TheVariants.{Node}
-use Rattle.xf_doc.specs.Visit.{visits}
-use Rattle.xf_lang.specs.Setting.{in_order}
-use Rattle.xf_lang.specs.Steps.{reached}
+use Rattle.xf_def_syntax.specs.declared.expr.Test.TheVariants.{Node}
+use Rattle.xf_def_forest.specs.Visit.{visits}
+use Rattle.xf_def_xpath.specs.Setting.{in_order}
+use Rattle.xf_def_xpath.specs.Steps.{reached}
 use Rattle.xf_eval.specs.Worth.{seen}
 use Rattle.xf_eval.proofs.Erased.{in_order-erased}
 use Rattle.xf_eval.proofs.Lives.{live-is, live-in_order}

@@ -1,6 +1,6 @@
 use Rattle.std.proofs.Common.{◌≡◌, map, take}
 use Rattle.std.specs.List.{flat_map}
-use Rattle.xf_lang.specs.Steps.{reached}
+use Rattle.xf_def_xpath.specs.Steps.{reached}
 use Rattle.xf_eval.specs.Worth.{seen}
 use Rattle.xf_eval.proofs.sets.reach_all.Given as goal
 

@@ -1,5 +1,5 @@
 use Rattle.std.proofs.Common.{ap, ◌++◌, ◌∙◌}
-use Rattle.xf_lang.specs.Steps.{reached}
+use Rattle.xf_def_xpath.specs.Steps.{reached}
 use Rattle.xf_eval.specs.Worth.{seen}
 use Rattle.xf_eval.proofs.Lives.{live-is, reached-live}
 use Rattle.xf_eval.proofs.sets.reached.Goals as goal

@@ -1,6 +1,6 @@
 use Rattle.std.proofs.Common.{◌≡◌, true, length, ap, sym, ◌∙◌}
 use Rattle.std.proofs.lemmas.Result.{IfOk-weaker}
-use Rattle.xf_lang.specs.Steps.{begun_at}
+use Rattle.xf_def_xpath.specs.Steps.{begun_at}
 use Rattle.xf_eval.specs.Worth.{seen}
 use Rattle.xf_eval.proofs.Lives.{live-get}
 use Rattle.xf_eval.proofs.Ordered.{alone-is}

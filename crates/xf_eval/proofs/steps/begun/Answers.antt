@@ -1,9 +1,9 @@
 use Rattle.std.proofs.Common.{◌∷◌, [], ap, ◌∙◌, sym}
-use Rattle.xf_doc.specs.Forest.{has_number}
-use Rattle.xf_doc.specs.Visit.{visits}
-use Rattle.xf_doc.proofs.LiveLaws.{top-live}
-use Rattle.xf_lang.specs.Meaning.{focus_of}
-use Rattle.xf_lang.specs.Steps.{begun}
+use Rattle.xf_def_forest.specs.Forest.{has_number}
+use Rattle.xf_def_forest.specs.Visit.{visits}
+use Rattle.xf_def_forest.proofs.LiveLaws.{top-live}
+use Rattle.xf_def_xpath.specs.Meaning.{focus_of}
+use Rattle.xf_def_xpath.specs.Steps.{begun}
 use Rattle.xf_eval.specs.Worth.{bare_setting}
 use Rattle.xf_eval.proofs.Erased.{top-erased}
 use Rattle.xf_eval.proofs.steps.begun.Goals as goal

@@ -1,9 +1,9 @@
 use Rattle.std.proofs.Common.{Some, List, ℕ, sym, subst}
 use Rattle.xf_base.specs.Limits.{string_limit}
-use Rattle.xf_doc.specs.Visit.{visits}
-use Rattle.xf_doc.proofs.PieceLaws.{whole-value}
-use Rattle.xf_lang.specs.declared.fault.EvalFault.TheVariants.{Long, Memory}
-use Rattle.xf_plain_values.specs.Bounded.{GivesBounded, capped}
+use Rattle.xf_def_forest.specs.Visit.{visits}
+use Rattle.xf_def_forest.proofs.PieceLaws.{whole-value}
+use Rattle.xf_def_xpath.specs.declared.fault.EvalFault.TheVariants.{Long, Memory}
+use Rattle.xf_def_values.specs.Bounded.{GivesBounded, capped}
 use Rattle.xf_eval.specs.declared.texts.StringValue.{StringValue}
 use Rattle.xf_eval.specs.Texts.{characters}
 use Rattle.xf_eval.proofs.texts.value_of_node.Goals as goal

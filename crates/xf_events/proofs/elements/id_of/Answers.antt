@@ -1,6 +1,6 @@
 use Rattle.std.proofs.Common.{sym, ap}
-use Rattle.xf_ui.specs.Interface.{Element}
-use Rattle.xf_elements.proofs.ElementLemmas.{no-element}
+use Rattle.xf_def_ui.specs.Interface.{Element}
+use Rattle.xf_form_elements.proofs.ElementLemmas.{no-element}
 use Rattle.xf_events.proofs.elements.id_of.Goals as goal
 
 pub returns-in-None : goal.returns-in-None

@@ -2,9 +2,9 @@ use Rattle.std.proofs.Common.{◌-◌, ◌<◌, length, take, drop, get_or, subs
 use Rattle.std.proofs.lemmas.Bool.Decides.{nat_tests}
 use Rattle.std.proofs.lemmas.List.{get_or_default}
 use Rattle.std.proofs.lemmas.Result.{on_ok_weaker}
-use Rattle.xf_ast.specs.declared.action.Phase.TheVariants.{Capture}
-use Rattle.xf_ui.specs.Calls.{heard_at}
-use Rattle.xf_ui.specs.Interface.{interface_of}
+use Rattle.xf_def_syntax.specs.declared.action.Phase.TheVariants.{Capture}
+use Rattle.xf_def_ui.specs.Calls.{heard_at}
+use Rattle.xf_def_ui.specs.Interface.{interface_of}
 use Rattle.xf_actions.specs.Seen.{fired_of}
 use Rattle.xf_events.specs.declared.handlers.Stage.{Stage}
 use Rattle.xf_events.specs.declared.handlers.Stop.{Stop}

@@ -1,9 +1,9 @@
 use Rattle.std.proofs.Common.{◌≡◌, [], ◌∷◌, ◌++◌, sym, ap, ◌∙◌}
 use Rattle.std.specs.Prelude.{reverse, if◌then◌else◌}
 use Rattle.std.proofs.lemmas.List.{append-nil}
-use Rattle.xf_ast.specs.declared.action.Phase.TheVariants.{Capture, Default}
-use Rattle.xf_ui.specs.Elements.{ancestors, path_to}
-use Rattle.xf_ui.specs.Interface.{interface_of}
+use Rattle.xf_def_syntax.specs.declared.action.Phase.TheVariants.{Capture, Default}
+use Rattle.xf_def_ui.specs.Elements.{ancestors, path_to}
+use Rattle.xf_def_ui.specs.Interface.{interface_of}
 use Rattle.xf_actions.specs.Seen.{fired_of}
 use Rattle.xf_events.specs.declared.handlers.Stop.{Stop}
 use Rattle.xf_events.specs.Handlers.{stops_at}

@@ -1,8 +1,8 @@
 use Rattle.std.proofs.Common.{◌≡◌, ◌++◌, ◌+◌, ◌-◌, suc, drop, refl, ap, ◌∙◌, arith}
 use Rattle.std.proofs.lemmas.List.{drop_all}
-use Rattle.xf_lang.specs.Binding.{as_list}
-use Rattle.xf_ui.specs.Interface.{interface_of}
-use Rattle.xf_elements.specs.Parts.{host_parts}
+use Rattle.xf_def_xpath.specs.Binding.{as_list}
+use Rattle.xf_def_ui.specs.Interface.{interface_of}
+use Rattle.xf_form_elements.specs.Parts.{host_parts}
 use Rattle.xf_events.specs.Inner.{actions_through, own_action}
 use Rattle.xf_events.proofs.InnerLaws.{all-told, carried, no-actions, no-actions-further, unchanged, actions-more}
 use Rattle.xf_events.proofs.inner.+push_actions.Goals as goal

@@ -1,5 +1,5 @@
 use Rattle.std.proofs.Common.{◌≡◌, ◌++◌, drop}
-use Rattle.xf_ui.specs.Interface.{interface_of}
+use Rattle.xf_def_ui.specs.Interface.{interface_of}
 use Rattle.xf_events.specs.Inner.{actions_through}
 use Rattle.xf_events.proofs.inner.+push_actions.Given as goal
 

@@ -1,7 +1,7 @@
 use Rattle.std.proofs.Common.{◌≡◌, ◌++◌, ◌+◌, ◌-◌, suc, drop, refl, ap, ◌∙◌, arith}
 use Rattle.std.proofs.lemmas.List.{drop_all}
-use Rattle.xf_ui.specs.Interface.{interface_of}
-use Rattle.xf_elements.specs.Parts.{host_parts, own_text}
+use Rattle.xf_def_ui.specs.Interface.{interface_of}
+use Rattle.xf_form_elements.specs.Parts.{host_parts, own_text}
 use Rattle.xf_events.specs.Inner.{words_through}
 use Rattle.xf_events.proofs.InnerLaws.{all-told, carried, no-words, no-words-further, unchanged, words-more}
 use Rattle.xf_events.proofs.inner.+push_words.Goals as goal

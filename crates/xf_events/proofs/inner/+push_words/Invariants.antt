@@ -1,5 +1,5 @@
 use Rattle.std.proofs.Common.{◌≡◌, ◌++◌, drop}
-use Rattle.xf_ui.specs.Interface.{interface_of}
+use Rattle.xf_def_ui.specs.Interface.{interface_of}
 use Rattle.xf_events.specs.Inner.{words_through}
 use Rattle.xf_events.proofs.inner.+push_words.Given as goal
 

@@ -1,6 +1,6 @@
 use Rattle.std.proofs.Common.{◌++◌, length, sym, ap, ◌∙◌}
-use Rattle.xf_elements.proofs.ElementLemmas.{as-many}
-use Rattle.xf_ui.specs.Interface.{interface_of}
+use Rattle.xf_form_elements.proofs.ElementLemmas.{as-many}
+use Rattle.xf_def_ui.specs.Interface.{interface_of}
 use Rattle.xf_events.specs.Inner.{actions_through}
 use Rattle.xf_events.proofs.inner.actions_at.Goals as goal
 

@@ -1,7 +1,7 @@
 use Rattle.std.proofs.Common.{sym, ap, ◌∙◌}
-use Rattle.xf_ui.specs.Interface.{Element}
-use Rattle.xf_ui.specs.Elements.{is_action}
-use Rattle.xf_elements.proofs.ElementLemmas.{no-element, this-element}
+use Rattle.xf_def_ui.specs.Interface.{Element}
+use Rattle.xf_def_ui.specs.Elements.{is_action}
+use Rattle.xf_form_elements.proofs.ElementLemmas.{no-element, this-element}
 use Rattle.xf_events.proofs.inner.is_action_at.Goals as goal
 
 pub returns-in-None : goal.returns-in-None

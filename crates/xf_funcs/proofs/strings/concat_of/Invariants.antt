@@ -1,6 +1,6 @@
 use Rattle.std.proofs.Common.{◌≡◌, ◌≤◌, length, take, flat_map}
 use Rattle.xf_base.specs.Limits.{string_limit}
-use Rattle.xf_plain_values.specs.Conversions.{text_in}
+use Rattle.xf_def_values.specs.Conversions.{text_in}
 use Rattle.xf_funcs.proofs.strings.concat_of.Given as goal
 
 abbrev pub invariant-loop-value : goal.invariant-loop-value

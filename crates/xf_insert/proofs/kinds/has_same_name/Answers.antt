@@ -1,5 +1,5 @@
 use Rattle.std.proofs.Common.{sym, ap, ◌∙◌, option_map}
-use Rattle.xf_doc.specs.Forest.{name_at}
+use Rattle.xf_def_forest.specs.Forest.{name_at}
 use Rattle.xf_insert.specs.Names.{are_same}
 use Rattle.xf_insert.proofs.KindLaws.{same-names}
 use Rattle.xf_insert.proofs.kinds.has_same_name.Goals as goal

@@ -1,6 +1,6 @@
 use Rattle.std.proofs.Common.{sym, ◌∙◌}
-use Rattle.xf_doc.specs.declared.content.Kind.TheVariants as kind
-use Rattle.xf_doc.specs.Forest.{is_attribute}
+use Rattle.xf_def_forest.specs.declared.content.Kind.TheVariants as kind
+use Rattle.xf_def_forest.specs.Forest.{is_attribute}
 use Rattle.xf_insert.proofs.KindLaws.{in-attribute, not-in}
 use Rattle.xf_insert.proofs.kinds.is_attribute.Goals as goal
 

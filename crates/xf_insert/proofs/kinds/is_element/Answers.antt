@@ -1,6 +1,6 @@
 use Rattle.std.proofs.Common.{sym, ◌∙◌}
-use Rattle.xf_doc.specs.declared.content.Kind.TheVariants as kind
-use Rattle.xf_doc.specs.Forest.{is_element}
+use Rattle.xf_def_forest.specs.declared.content.Kind.TheVariants as kind
+use Rattle.xf_def_forest.specs.Forest.{is_element}
 use Rattle.xf_insert.proofs.KindLaws.{in-element, not-in}
 use Rattle.xf_insert.proofs.kinds.is_element.Goals as goal
 

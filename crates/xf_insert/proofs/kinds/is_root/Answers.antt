@@ -1,6 +1,6 @@
 use Rattle.std.proofs.Common.{sym, ◌∙◌}
-use Rattle.xf_doc.specs.declared.content.Kind.TheVariants as kind
-use Rattle.xf_doc.specs.Forest.{is_root}
+use Rattle.xf_def_forest.specs.declared.content.Kind.TheVariants as kind
+use Rattle.xf_def_forest.specs.Forest.{is_root}
 use Rattle.xf_insert.proofs.KindLaws.{in-root, not-in}
 use Rattle.xf_insert.proofs.kinds.is_root.Goals as goal
 

@@ -1,9 +1,9 @@
 use Rattle.std.proofs.Common.{◌≡◌, [], map, sym, ap, ◌∙◌, subst}
 use Rattle.std.specs.Prelude.{IfOk}
-use Rattle.xf_doc.specs.Forest.{is_attribute, is_element}
-use Rattle.xf_doc.specs.Visit.{visits}
-use Rattle.xf_doc.proofs.LiveLaws.{parent-live}
-use Rattle.xf_model.specs.Places as model
+use Rattle.xf_def_forest.specs.Forest.{is_attribute, is_element}
+use Rattle.xf_def_forest.specs.Visit.{visits}
+use Rattle.xf_def_forest.proofs.LiveLaws.{parent-live}
+use Rattle.xf_def_model.specs.Places as model
 use Rattle.xf_actions.specs.Seen.{place_of}
 use Rattle.xf_insert.specs.Placing as placing
 use Rattle.xf_insert.proofs.AtLaws.{at-attribute, at-document_element, at-element, at-nothing, at-other}

@@ -1,6 +1,6 @@
 use Rattle.std.proofs.Common.{◌≡◌, ◌++◌, drop}
-use Rattle.xf_doc.specs.Forest.{is_attribute}
-use Rattle.xf_doc.specs.Visit.{visits}
+use Rattle.xf_def_forest.specs.Forest.{is_attribute}
+use Rattle.xf_def_forest.specs.Visit.{visits}
 use Rattle.xf_insert.specs.Numbers.{numbers}
 use Rattle.xf_insert.specs.Placing.{among}
 use Rattle.xf_insert.proofs.placing.attributes_among.Given as goal

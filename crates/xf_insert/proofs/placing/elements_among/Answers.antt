@@ -1,5 +1,5 @@
-use Rattle.xf_doc.specs.Forest.{is_element}
-use Rattle.xf_doc.specs.Visit.{visits}
+use Rattle.xf_def_forest.specs.Forest.{is_element}
+use Rattle.xf_def_forest.specs.Visit.{visits}
 use Rattle.xf_insert.proofs.LoopLaws.{among-end, among-next}
 use Rattle.xf_insert.proofs.placing.elements_among.Goals as goal
 

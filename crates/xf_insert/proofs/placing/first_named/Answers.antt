@@ -1,5 +1,5 @@
 use Rattle.std.proofs.Common.{sym, ◌∙◌}
-use Rattle.xf_doc.specs.Visit.{visits}
+use Rattle.xf_def_forest.specs.Visit.{visits}
 use Rattle.xf_insert.proofs.LoopLaws.{first-end, first-found, first-next}
 use Rattle.xf_insert.proofs.placing.first_named.Goals as goal
 

@@ -1,5 +1,5 @@
 use Rattle.std.proofs.Common.{◌≡◌, drop}
-use Rattle.xf_doc.specs.Visit.{visits}
+use Rattle.xf_def_forest.specs.Visit.{visits}
 use Rattle.xf_insert.specs.Numbers.{numbers}
 use Rattle.xf_insert.specs.Placing.{first_named}
 use Rattle.xf_insert.proofs.placing.first_named.Given as goal

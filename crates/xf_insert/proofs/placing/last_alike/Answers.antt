@@ -1,5 +1,5 @@
 use Rattle.std.proofs.Common.{◌≡◌, sym, ◌∙◌, arith}
-use Rattle.xf_doc.specs.Visit.{visits}
+use Rattle.xf_def_forest.specs.Visit.{visits}
 use Rattle.xf_insert.proofs.LoopLaws.{alike-before, alike-end, alike-found}
 use Rattle.xf_insert.proofs.placing.last_alike.Goals as goal
 

@@ -1,6 +1,6 @@
 use Rattle.std.proofs.Common.{◌≡◌, ◌≤◌, length, drop, map, None}
-use Rattle.xf_doc.specs.Visit.{visits}
-use Rattle.xf_model.specs.Places as model
+use Rattle.xf_def_forest.specs.Visit.{visits}
+use Rattle.xf_def_model.specs.Places as model
 use Rattle.xf_actions.specs.Seen.{place_of}
 use Rattle.xf_insert.proofs.placing.last_alike.Given as goal
 

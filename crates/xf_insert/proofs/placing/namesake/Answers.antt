@@ -1,6 +1,6 @@
 use Rattle.std.proofs.Common.{sym, ap, ◌∙◌}
-use Rattle.xf_doc.specs.Visit.{visits}
-use Rattle.xf_doc.proofs.TextLaws.{in_forest}
+use Rattle.xf_def_forest.specs.Visit.{visits}
+use Rattle.xf_def_forest.proofs.TextLaws.{in_forest}
 use Rattle.xf_insert.specs.Placing.{first_named}
 use Rattle.xf_insert.proofs.PlaceLaws.{namesake-listed, namesake-none, visited}
 use Rattle.xf_insert.proofs.placing.namesake.Goals as goal

@@ -1,5 +1,5 @@
 use Rattle.std.proofs.Common.{ap, ◌∙◌, ◌==◌}
-use Rattle.xf_doc.specs.Changes.{place_among}
+use Rattle.xf_def_forest.specs.Changes.{place_among}
 use Rattle.xf_insert.proofs.AtLaws.{children-axis, position-none, position-some}
 use Rattle.xf_insert.proofs.placing.place_of.Goals as goal
 

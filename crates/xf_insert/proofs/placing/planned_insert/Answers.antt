@@ -1,5 +1,5 @@
 use Rattle.std.proofs.Common.{map, sym, ap, ◌∙◌}
-use Rattle.xf_form_machine.specs.Tables.{insert_by}
+use Rattle.xf_def_machine.specs.Tables.{insert_by}
 use Rattle.xf_actions.specs.Seen.{place_of}
 use Rattle.xf_insert.specs.Closed.{closed_by}
 use Rattle.xf_insert.proofs.ClosedLaws.{planned-all, planned-none}

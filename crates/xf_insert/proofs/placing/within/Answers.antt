@@ -1,5 +1,5 @@
 use Rattle.std.proofs.Common.{map}
-use Rattle.xf_doc.specs.Visit.{visits}
+use Rattle.xf_def_forest.specs.Visit.{visits}
 use Rattle.xf_actions.specs.Seen.{place_of}
 use Rattle.xf_insert.proofs.LoopLaws.{within-end, within-next}
 use Rattle.xf_insert.proofs.placing.within.Goals as goal

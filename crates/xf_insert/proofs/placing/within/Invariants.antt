@@ -1,6 +1,6 @@
 use Rattle.std.proofs.Common.{◌≡◌, [], ◌++◌, drop, map}
-use Rattle.xf_doc.specs.Visit.{visits}
-use Rattle.xf_model.specs.Places as model
+use Rattle.xf_def_forest.specs.Visit.{visits}
+use Rattle.xf_def_model.specs.Places as model
 use Rattle.xf_actions.specs.Seen.{place_of}
 use Rattle.xf_insert.specs.Numbers.{numbers}
 use Rattle.xf_insert.proofs.placing.within.Given as goal

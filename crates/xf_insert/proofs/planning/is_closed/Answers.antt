@@ -1,5 +1,5 @@
 use Rattle.std.proofs.Common.{◌&&◌, sym, ap, ◌∙◌}
-use Rattle.xf_ui.specs.declared.marks.Marks.{Marks}
+use Rattle.xf_def_ui.specs.declared.marks.Marks.{Marks}
 use Rattle.xf_insert.proofs.ClosedLaws.{closed-has}
 use Rattle.xf_insert.proofs.planning.is_closed.Goals as goal
 

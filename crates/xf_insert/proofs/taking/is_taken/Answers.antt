@@ -1,8 +1,8 @@
 use Rattle.std.proofs.Common.{◌≡◌, true, not, ◌&&◌, sym, ap, ◌∙◌}
 use Rattle.std.specs.List.{list_any}
-use Rattle.xf_doc.specs.Visit.{has, parent_of, visits}
-use Rattle.xf_walks.proofs.StackLemmas.{absent-parent}
-use Rattle.xf_model.specs.Taken.{is_apart, is_open}
+use Rattle.xf_def_forest.specs.Visit.{has, parent_of, visits}
+use Rattle.xf_tree_walks.proofs.StackLemmas.{absent-parent}
+use Rattle.xf_def_model.specs.Taken.{is_apart, is_open}
 use Rattle.xf_insert.specs.Closed.{closed_by}
 use Rattle.xf_insert.proofs.DeleteLaws.{any-ancestor}
 use Rattle.xf_insert.proofs.taking.is_taken.Goals as goal

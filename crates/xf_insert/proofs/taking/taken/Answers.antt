@@ -1,4 +1,4 @@
-use Rattle.xf_doc.specs.Visit.{visits}
+use Rattle.xf_def_forest.specs.Visit.{visits}
 use Rattle.xf_insert.specs.Closed.{closed_by}
 use Rattle.xf_insert.proofs.LoopLaws.{taken-end, taken-next}
 use Rattle.xf_insert.proofs.taking.taken.Goals as goal

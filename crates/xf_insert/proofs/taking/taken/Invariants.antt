@@ -1,6 +1,6 @@
 use Rattle.std.proofs.Common.{◌≡◌, [], ◌++◌, drop}
-use Rattle.xf_doc.specs.Visit.{visits}
-use Rattle.xf_model.specs.Taken.{taken_from}
+use Rattle.xf_def_forest.specs.Visit.{visits}
+use Rattle.xf_def_model.specs.Taken.{taken_from}
 use Rattle.xf_insert.specs.Closed.{closed_by}
 use Rattle.xf_insert.specs.Numbers.{numbers}
 use Rattle.xf_insert.proofs.taking.taken.Given as goal

@@ -1,6 +1,6 @@
 use Rattle.std.proofs.Common.{◌≡◌, ◌++◌, length}
-use Rattle.xf_doc.specs.Axis.{axis_of}
-use Rattle.xf_doc.specs.Visit.{visits}
+use Rattle.xf_def_forest.specs.Axis.{axis_of}
+use Rattle.xf_def_forest.specs.Visit.{visits}
 use Rattle.xf_insert.proofs.walking.push_axis.Given as goal
 
 abbrev pub invariant-loop-other : goal.invariant-loop-other

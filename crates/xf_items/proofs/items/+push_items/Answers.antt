@@ -1,9 +1,9 @@
 use Rattle.std.proofs.Common.{◌≡◌, ◌-◌, suc, sym, ap, ◌∙◌, arith}
 use Rattle.std.proofs.lemmas.List.{drop_all}
 use Rattle.std.proofs.lemmas.Result.{err_from_is_err_and}
-use Rattle.xf_ui.specs.Interface.{interface_of}
-use Rattle.xf_context.specs.Inside.{seen_inside}
-use Rattle.xf_context.specs.Over.{around_over}
+use Rattle.xf_def_ui.specs.Interface.{interface_of}
+use Rattle.xf_eval_context.specs.Inside.{seen_inside}
+use Rattle.xf_eval_context.specs.Over.{around_over}
 use Rattle.xf_items.specs.Items.{behind, items_among}
 use Rattle.xf_items.proofs.ItemLaws.{behind-end, behind-none-is, carried, long-choices, long-inside, long-own, none-among, none-further}
 use Rattle.xf_items.proofs.LabelLaws.{adds-fault, adds-whole}

@@ -1,7 +1,7 @@
 use Rattle.std.proofs.Common.{◌≡◌, drop}
-use Rattle.xf_ui.specs.Interface.{interface_of}
-use Rattle.xf_context.specs.Inside.{seen_inside}
-use Rattle.xf_context.specs.Over.{around_over}
+use Rattle.xf_def_ui.specs.Interface.{interface_of}
+use Rattle.xf_eval_context.specs.Inside.{seen_inside}
+use Rattle.xf_eval_context.specs.Over.{around_over}
 use Rattle.xf_items.specs.Items.{behind, items_among}
 use Rattle.xf_items.proofs.items.+push_items.Given as goal
 

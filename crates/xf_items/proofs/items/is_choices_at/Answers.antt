@@ -1,6 +1,6 @@
 use Rattle.std.proofs.Common.{sym, ap}
-use Rattle.xf_ui.specs.Interface.{Element}
-use Rattle.xf_elements.proofs.ElementLemmas.{no-element}
+use Rattle.xf_def_ui.specs.Interface.{Element}
+use Rattle.xf_form_elements.proofs.ElementLemmas.{no-element}
 use Rattle.xf_items.specs.Items.{is_choices}
 use Rattle.xf_items.proofs.items.is_choices_at.Goals as goal
 

@@ -1,8 +1,8 @@
 use Rattle.std.proofs.Common.{ap, ◌∙◌}
-use Rattle.xf_ui.specs.Interface.{Element, interface_of}
-use Rattle.xf_elements.proofs.ElementLemmas.{no-element, this-element}
-use Rattle.xf_context.specs.Inside.{seen_inside}
-use Rattle.xf_context.specs.Over.{around_over}
+use Rattle.xf_def_ui.specs.Interface.{Element, interface_of}
+use Rattle.xf_form_elements.proofs.ElementLemmas.{no-element, this-element}
+use Rattle.xf_eval_context.specs.Inside.{seen_inside}
+use Rattle.xf_eval_context.specs.Over.{around_over}
 use Rattle.xf_items.specs.Items.{behind, own_by}
 use Rattle.xf_items.proofs.ItemLaws.{behind-end, own-none}
 use Rattle.xf_items.proofs.items.push_element.Goals as goal

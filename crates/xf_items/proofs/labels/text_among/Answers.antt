@@ -1,14 +1,14 @@
 use Rattle.std.proofs.Common.{ap, ◌∙◌, find}
 use Rattle.std.specs.List.{flat_map}
-use Rattle.xf_ast.specs.Ordered.{child_in}
-use Rattle.xf_lang.specs.declared.fault.EvalFault.TheVariants.{Long, Memory}
-use Rattle.xf_ui.specs.Elements.{element_at}
-use Rattle.xf_ui.specs.Interface.{interface_of}
-use Rattle.xf_ui.specs.Items.{text_if}
-use Rattle.xf_ui.specs.Labels.{text_in}
+use Rattle.xf_def_syntax.specs.Ordered.{child_in}
+use Rattle.xf_def_xpath.specs.declared.fault.EvalFault.TheVariants.{Long, Memory}
+use Rattle.xf_def_ui.specs.Elements.{element_at}
+use Rattle.xf_def_ui.specs.Interface.{interface_of}
+use Rattle.xf_def_ui.specs.Items.{text_if}
+use Rattle.xf_def_ui.specs.Labels.{text_in}
 use Rattle.xf_eval.proofs.Bounded.{gives-same}
-use Rattle.xf_context.specs.Inside.{seen_inside}
-use Rattle.xf_context.specs.Over.{around_over}
+use Rattle.xf_eval_context.specs.Inside.{seen_inside}
+use Rattle.xf_eval_context.specs.Over.{around_over}
 use Rattle.xf_items.specs.Items.{is_sought}
 use Rattle.xf_items.proofs.labels.text_among.Goals as goal
 

@@ -1,10 +1,10 @@
 use Rattle.std.proofs.Common.{sym, ap, ◌∙◌}
 use Rattle.std.proofs.lemmas.List.{drop_all}
 use Rattle.std.proofs.lemmas.Result.{err_from_is_err_and}
-use Rattle.xf_ui.specs.Interface.{interface_of}
-use Rattle.xf_ui.specs.Items.{item_in}
-use Rattle.xf_context.specs.Inside.{seen_inside}
-use Rattle.xf_context.specs.Over.{around_over}
+use Rattle.xf_def_ui.specs.Interface.{interface_of}
+use Rattle.xf_def_ui.specs.Items.{item_in}
+use Rattle.xf_eval_context.specs.Inside.{seen_inside}
+use Rattle.xf_eval_context.specs.Over.{around_over}
 use Rattle.xf_items.specs.Items.{alone, behind, placed_items}
 use Rattle.xf_items.proofs.ItemLaws.{behind-end, behind-none-is}
 use Rattle.xf_items.proofs.LabelLaws.{adds-whole, some-same}

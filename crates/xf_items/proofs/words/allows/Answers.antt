@@ -1,5 +1,5 @@
 use Rattle.std.proofs.Common.{ap, sym, ◌∙◌, not}
-use Rattle.xf_ui.specs.Items.{allows}
+use Rattle.xf_def_ui.specs.Items.{allows}
 use Rattle.xf_items.proofs.WordLaws.{all-values}
 use Rattle.xf_items.proofs.words.allows.Goals as goal
 

@@ -1,8 +1,8 @@
 use Rattle.std.proofs.Common.{map, slice_get, ap, ◌∙◌}
 use Rattle.std.specs.Prelude.{option_and_then}
-use Rattle.xf_model.specs.Entries.{expression_in}
-use Rattle.xf_model.specs.Rules.{rule_of}
-use Rattle.xf_lang.specs.declared.fault.EvalFault.TheVariants.{Long, Memory}
+use Rattle.xf_def_model.specs.Entries.{expression_in}
+use Rattle.xf_def_model.specs.Rules.{rule_of}
+use Rattle.xf_def_xpath.specs.declared.fault.EvalFault.TheVariants.{Long, Memory}
 use Rattle.xf_eval.proofs.Bounded.{gives-same}
 use Rattle.xf_recalc.proofs.Values.{value-some}
 use Rattle.xf_recalc.proofs.evaluate.entry_value.Goals as goal

@@ -1,6 +1,6 @@
 use Rattle.std.proofs.Common.{◌≡◌, ◌+◌, length, take, sym, ap, ◌∙◌, arith}
 use Rattle.std.specs.Prelude.{slice_get}
-use Rattle.xf_model.specs.Settled.{calculates}
+use Rattle.xf_def_model.specs.Settled.{calculates}
 use Rattle.xf_binds.specs.Table.{kept_at}
 use Rattle.xf_binds.specs.Placed.{is_calculate_at}
 use Rattle.xf_binds.proofs.Placings.{counted, one_if, plus-none}

@@ -1,5 +1,5 @@
 use Rattle.std.proofs.Common.{◌≡◌, ◌≤◌, length, take}
-use Rattle.xf_model.specs.Settled.{calculates}
+use Rattle.xf_def_model.specs.Settled.{calculates}
 use Rattle.xf_binds.specs.Table.{kept_at}
 use Rattle.xf_recalc.proofs.recalculation.calculate_count.Given as goal
 

@@ -1,9 +1,9 @@
 use Rattle.std.proofs.Common.{◌<◌, ◌^◌, [], map, length, refl, sym, ap, ◌∙◌, subst, arith}
 use Rattle.std.specs.List.{list_all}
 use Rattle.std.proofs.lemmas.Result.{err_from_is_err_and}
-use Rattle.xf_doc.specs.Limits.{limits, passed_by_all}
-use Rattle.xf_doc.specs.Visit.{visits}
-use Rattle.xf_model.specs.Settled.{calculates}
+use Rattle.xf_def_forest.specs.Limits.{limits, passed_by_all}
+use Rattle.xf_def_forest.specs.Visit.{visits}
+use Rattle.xf_def_model.specs.Settled.{calculates}
 use Rattle.xf_eval.specs.Live.{AroundStands}
 use Rattle.xf_binds.specs.Table.{kept_at}
 use Rattle.xf_recalc.specs.Known.{AreKnown}

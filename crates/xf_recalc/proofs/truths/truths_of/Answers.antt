@@ -1,9 +1,9 @@
 use Rattle.std.proofs.Common.{◌≡◌, ◌+◌, length, take, sym, ap, ◌∙◌, subst, arith}
 use Rattle.std.proofs.lemmas.Result.{err_from_is_err_and}
 use Rattle.std.specs.Prelude.{option_map, slice_get}
-use Rattle.xf_doc.specs.Visit.{visits}
-use Rattle.xf_lang.specs.declared.fault.EvalFault.TheVariants.{Long, Memory}
-use Rattle.xf_model.specs.Settled.{calculates}
+use Rattle.xf_def_forest.specs.Visit.{visits}
+use Rattle.xf_def_xpath.specs.declared.fault.EvalFault.TheVariants.{Long, Memory}
+use Rattle.xf_def_model.specs.Settled.{calculates}
 use Rattle.xf_eval.proofs.Bounded.{part-long}
 use Rattle.xf_binds.specs.Table.{kept_at}
 use Rattle.xf_binds.specs.Held.{entry_of}

@@ -1,6 +1,6 @@
 use Rattle.std.proofs.Common.{◌≡◌, ◌≤◌, [], drop, length, take}
-use Rattle.xf_doc.specs.Visit.{visits}
-use Rattle.xf_model.specs.Settled.{calculates}
+use Rattle.xf_def_forest.specs.Visit.{visits}
+use Rattle.xf_def_model.specs.Settled.{calculates}
 use Rattle.xf_binds.specs.Table.{kept_at}
 use Rattle.xf_recalc.specs.Settles.{scope_in}
 use Rattle.xf_recalc.specs.Turns.{found_over}

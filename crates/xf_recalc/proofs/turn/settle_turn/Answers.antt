@@ -1,6 +1,6 @@
 use Rattle.std.proofs.Common.{◌≡◌, true, inl, inr, ap, ◌∙◌}
-use Rattle.xf_doc.specs.declared.content.Kind.TheVariants.{Attribute, Element}
-use Rattle.xf_doc.specs.Forest.{has_number}
+use Rattle.xf_def_forest.specs.declared.content.Kind.TheVariants.{Attribute, Element}
+use Rattle.xf_def_forest.specs.Forest.{has_number}
 use Rattle.xf_tree.proofs.ValueLemmas.{kind-live}
 use Rattle.xf_recalc.proofs.turn.settle_turn.Goals as goal
 

@@ -2,10 +2,10 @@ use Rattle.std.proofs.Common.{◌≡◌, ◌+◌, ◌<◌, ◌^◌, [], Some, ma
 use Rattle.std.proofs.lemmas.List.{take_more}
 use Rattle.std.proofs.lemmas.Result.{err_from_is_err_and}
 use Rattle.xf_base.specs.Limits.{string_limit}
-use Rattle.xf_doc.specs.Visit.{visits}
-use Rattle.xf_model.specs.declared.property.Property.TheVariants.{Calculate}
-use Rattle.xf_model.specs.Entries.{text_of}
-use Rattle.xf_model.specs.Settled.{calculates}
+use Rattle.xf_def_forest.specs.Visit.{visits}
+use Rattle.xf_def_model.specs.declared.property.Property.TheVariants.{Calculate}
+use Rattle.xf_def_model.specs.Entries.{text_of}
+use Rattle.xf_def_model.specs.Settled.{calculates}
 use Rattle.xf_eval.specs.Live.{AroundStands}
 use Rattle.xf_undo.specs.Draft.{IsUnused}
 use Rattle.xf_binds.specs.Held.{place_on}

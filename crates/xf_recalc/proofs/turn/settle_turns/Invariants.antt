@@ -1,5 +1,5 @@
 use Rattle.std.proofs.Common.{◌≡◌, take}
-use Rattle.xf_doc.specs.Visit.{visits}
+use Rattle.xf_def_forest.specs.Visit.{visits}
 use Rattle.xf_binds.specs.Table.{kept_at}
 use Rattle.xf_recalc.specs.Known.{AreKnown}
 use Rattle.xf_recalc.specs.Settles.{scope_in, settled_forest}

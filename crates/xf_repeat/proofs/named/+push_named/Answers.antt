@@ -1,7 +1,7 @@
 use Rattle.std.proofs.Common.{◌≡◌, ◌<◌, length, arith}
 use Rattle.std.proofs.lemmas.Bool.Decides.{nat_tests}
-use Rattle.xf_ui.specs.Interface.{interface_of}
-use Rattle.xf_context.specs.Over.{around_over}
+use Rattle.xf_def_ui.specs.Interface.{interface_of}
+use Rattle.xf_eval_context.specs.Over.{around_over}
 use Rattle.xf_repeat.proofs.NamedLaws.{no-number}
 use Rattle.xf_repeat.proofs.named.+push_named.Goals as goal
 

@@ -1,9 +1,9 @@
 use Rattle.std.proofs.Common.{◌≡◌, ◌-◌, suc, map, ap, arith}
 use Rattle.std.proofs.lemmas.Result.{err_from_is_err_and}
-use Rattle.xf_ui.specs.Index.{brought_up}
-use Rattle.xf_ui.specs.Interface.{interface_of}
-use Rattle.xf_context.specs.Indexes.{seen_index}
-use Rattle.xf_context.specs.Over.{around_over}
+use Rattle.xf_def_ui.specs.Index.{brought_up}
+use Rattle.xf_def_ui.specs.Interface.{interface_of}
+use Rattle.xf_eval_context.specs.Indexes.{seen_index}
+use Rattle.xf_eval_context.specs.Over.{around_over}
 use Rattle.xf_repeat.proofs.UpLaws.{up-again, up-given, up-still, up-stopped}
 use Rattle.xf_repeat.proofs.passing.+bring_up.Goals as goal
 

@@ -1,12 +1,12 @@
 use Rattle.std.proofs.Common.{Some, not, map, sym, ap, ◌∙◌}
 use Rattle.std.specs.Prelude.{option_map}
 use Rattle.std.proofs.lemmas.Result.{err_from_is_err_and}
-use Rattle.xf_lang.specs.declared.fault.EvalFault.TheVariants.{Long, Memory}
-use Rattle.xf_ui.specs.Index.{pass, same_indexes}
-use Rattle.xf_ui.specs.Interface.{interface_of}
+use Rattle.xf_def_xpath.specs.declared.fault.EvalFault.TheVariants.{Long, Memory}
+use Rattle.xf_def_ui.specs.Index.{pass, same_indexes}
+use Rattle.xf_def_ui.specs.Interface.{interface_of}
 use Rattle.xf_eval.proofs.Bounded.{part-long}
-use Rattle.xf_context.specs.Indexes.{seen_index}
-use Rattle.xf_context.specs.Over.{around_over}
+use Rattle.xf_eval_context.specs.Indexes.{seen_index}
+use Rattle.xf_eval_context.specs.Over.{around_over}
 use Rattle.xf_repeat.specs.Passes.{moved_from}
 use Rattle.xf_repeat.proofs.passing.is_moved.Goals as goal
 

@@ -1,12 +1,12 @@
 use Rattle.std.proofs.Common.{◌+◌, [], drop, get_or, map, sym, ap, ◌∙◌}
 use Rattle.std.proofs.lemmas.List.{drop_all, drop_more}
 use Rattle.std.proofs.lemmas.Result.{err_from_is_err_and}
-use Rattle.xf_lang.specs.declared.fault.EvalFault.TheVariants.{Long, Memory}
-use Rattle.xf_ui.specs.Index.{Pass, pass}
-use Rattle.xf_ui.specs.Interface.{interface_of}
+use Rattle.xf_def_xpath.specs.declared.fault.EvalFault.TheVariants.{Long, Memory}
+use Rattle.xf_def_ui.specs.Index.{Pass, pass}
+use Rattle.xf_def_ui.specs.Interface.{interface_of}
 use Rattle.xf_eval.proofs.Bounded.{part-long}
-use Rattle.xf_context.specs.Indexes.{seen_index}
-use Rattle.xf_context.specs.Over.{around_over}
+use Rattle.xf_eval_context.specs.Indexes.{seen_index}
+use Rattle.xf_eval_context.specs.Over.{around_over}
 use Rattle.xf_repeat.proofs.PassLaws.{indexes_after, pass-long, pass-more}
 use Rattle.xf_repeat.proofs.passing.pass.Goals as goal
 

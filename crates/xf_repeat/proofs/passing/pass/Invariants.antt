@@ -1,7 +1,7 @@
 use Rattle.std.proofs.Common.{◌≡◌, [], drop, map}
-use Rattle.xf_ui.specs.Interface.{interface_of}
-use Rattle.xf_context.specs.Indexes.{seen_index}
-use Rattle.xf_context.specs.Over.{around_over}
+use Rattle.xf_def_ui.specs.Interface.{interface_of}
+use Rattle.xf_eval_context.specs.Indexes.{seen_index}
+use Rattle.xf_eval_context.specs.Over.{around_over}
 use Rattle.xf_repeat.proofs.PassLaws.{indexes_after}
 use Rattle.xf_repeat.proofs.passing.pass.Given as goal
 

@@ -1,7 +1,7 @@
 use Rattle.std.proofs.Common.{map, ap, ◌∙◌}
 use Rattle.std.specs.Prelude.{slice_set}
 use Rattle.std.proofs.lemmas.List.{map-set}
-use Rattle.xf_context.specs.Indexes.{seen_index}
+use Rattle.xf_eval_context.specs.Indexes.{seen_index}
 use Rattle.xf_repeat.proofs.placed.put_index.Goals as goal
 
 pub returns-then-number-indexes : goal.returns-then-number-indexes

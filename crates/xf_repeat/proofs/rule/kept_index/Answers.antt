@@ -1,7 +1,7 @@
 use Rattle.std.proofs.Common.{◌≡◌, ◌+◌, suc, Some, option_map, sym, ap, ◌∙◌, arith}
 use Rattle.std.specs.Prelude.{option_and_then}
-use Rattle.xf_doc.specs.declared.node.NodeId.{NodeId}
-use Rattle.xf_ui.specs.Index.{place_in}
+use Rattle.xf_def_forest.specs.declared.node.NodeId.{NodeId}
+use Rattle.xf_def_ui.specs.Index.{place_in}
 use Rattle.xf_repeat.proofs.PlaceLaws.{kept-none, kept-some}
 use Rattle.xf_repeat.proofs.rule.kept_index.Goals as goal
 

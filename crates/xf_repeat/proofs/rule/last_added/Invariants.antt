@@ -1,5 +1,5 @@
 use Rattle.std.proofs.Common.{◌≡◌, suc, drop, map}
-use Rattle.xf_ui.specs.Index.{last_from, later_or}
+use Rattle.xf_def_ui.specs.Index.{last_from, later_or}
 use Rattle.xf_repeat.proofs.rule.last_added.Given as goal
 
 abbrev pub invariant-loop-row : goal.invariant-loop-row

@@ -1,12 +1,12 @@
 use Rattle.std.proofs.Common.{false, Some, map, sym, ap, ◌∙◌}
 use Rattle.std.proofs.lemmas.Result.{err_from_is_err_and}
-use Rattle.xf_lang.specs.declared.fault.EvalFault.TheVariants.{Long, Memory}
-use Rattle.xf_ui.specs.Index.{index_at, with_index}
-use Rattle.xf_ui.specs.Interface.{interface_of}
-use Rattle.xf_ui.specs.Started.{index_set, restarted}
+use Rattle.xf_def_xpath.specs.declared.fault.EvalFault.TheVariants.{Long, Memory}
+use Rattle.xf_def_ui.specs.Index.{index_at, with_index}
+use Rattle.xf_def_ui.specs.Interface.{interface_of}
+use Rattle.xf_def_ui.specs.Started.{index_set, restarted}
 use Rattle.xf_eval.proofs.Bounded.{gives-same, part-long}
-use Rattle.xf_context.specs.Indexes.{seen_index}
-use Rattle.xf_context.specs.Over.{around_over}
+use Rattle.xf_eval_context.specs.Indexes.{seen_index}
+use Rattle.xf_eval_context.specs.Over.{around_over}
 use Rattle.xf_repeat.proofs.StartLaws.{set-found, set-long}
 use Rattle.xf_repeat.proofs.starting.set_index.Goals as goal
 

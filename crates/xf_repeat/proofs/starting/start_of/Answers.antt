@@ -1,7 +1,7 @@
 use Rattle.std.proofs.Common.{sym, ap}
-use Rattle.xf_ui.specs.Elements.{repeat_start}
-use Rattle.xf_ui.specs.Interface.{Element}
-use Rattle.xf_elements.proofs.ElementLemmas.{no-element}
+use Rattle.xf_def_ui.specs.Elements.{repeat_start}
+use Rattle.xf_def_ui.specs.Interface.{Element}
+use Rattle.xf_form_elements.proofs.ElementLemmas.{no-element}
 use Rattle.xf_repeat.proofs.starting.start_of.Goals as goal
 
 pub returns-in-None : goal.returns-in-None

@@ -1,13 +1,13 @@
 use Rattle.std.proofs.Common.{Some, map, sym, ap, ◌∙◌}
 use Rattle.std.specs.Prelude.{filter}
 use Rattle.std.proofs.lemmas.Result.{err_from_is_err_and}
-use Rattle.xf_lang.specs.declared.fault.EvalFault.TheVariants.{Long, Memory}
-use Rattle.xf_ui.specs.Index.{unset}
-use Rattle.xf_ui.specs.Interface.{interface_of}
-use Rattle.xf_ui.specs.Started.{each_takes, started}
+use Rattle.xf_def_xpath.specs.declared.fault.EvalFault.TheVariants.{Long, Memory}
+use Rattle.xf_def_ui.specs.Index.{unset}
+use Rattle.xf_def_ui.specs.Interface.{interface_of}
+use Rattle.xf_def_ui.specs.Started.{each_takes, started}
 use Rattle.xf_eval.proofs.Bounded.{part-long}
-use Rattle.xf_context.specs.Indexes.{seen_index}
-use Rattle.xf_context.specs.Over.{around_over}
+use Rattle.xf_eval_context.specs.Indexes.{seen_index}
+use Rattle.xf_eval_context.specs.Over.{around_over}
 use Rattle.xf_repeat.specs.declared.starting.Start.TheVariants.{Written}
 use Rattle.xf_repeat.specs.Starts.{is_taken, taken_by}
 use Rattle.xf_repeat.proofs.StartLaws.{filter-all, written-back}

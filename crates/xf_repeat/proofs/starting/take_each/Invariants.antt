@@ -1,9 +1,9 @@
 use Rattle.std.proofs.Common.{◌≡◌, drop, map}
 use Rattle.std.specs.Prelude.{filter}
-use Rattle.xf_ui.specs.Interface.{interface_of}
-use Rattle.xf_ui.specs.Started.{each_takes}
-use Rattle.xf_context.specs.Indexes.{seen_index}
-use Rattle.xf_context.specs.Over.{around_over}
+use Rattle.xf_def_ui.specs.Interface.{interface_of}
+use Rattle.xf_def_ui.specs.Started.{each_takes}
+use Rattle.xf_eval_context.specs.Indexes.{seen_index}
+use Rattle.xf_eval_context.specs.Over.{around_over}
 use Rattle.xf_repeat.specs.Starts.{is_taken, taken_by}
 use Rattle.xf_repeat.proofs.starting.take_each.Given as goal
 

@@ -1,6 +1,6 @@
 use Rattle.std.proofs.Common.{map, ap, ◌∙◌}
 use Rattle.std.proofs.lemmas.Result.{IfOk-weaker}
-use Rattle.xf_context.specs.Indexes.{seen_index}
+use Rattle.xf_eval_context.specs.Indexes.{seen_index}
 use Rattle.xf_repeat.proofs.StartLaws.{all-unset}
 use Rattle.xf_repeat.proofs.starting.unset.Goals as goal
 

@@ -1,7 +1,7 @@
 use Rattle.std.proofs.Common.{sym, subst}
-use Rattle.xf_doc.specs.Forest.{IsLive}
-use Rattle.xf_doc.specs.Texts.{Keeping}
-use Rattle.xf_doc.proofs.LiveLaws.{parent-live}
+use Rattle.xf_def_forest.specs.Forest.{IsLive}
+use Rattle.xf_def_forest.specs.Texts.{Keeping}
+use Rattle.xf_def_forest.proofs.LiveLaws.{parent-live}
 use Rattle.xf_report.proofs.instance.is_beside_elements.Goals as goal
 
 pub has_elements-requires : goal.has_elements-requires

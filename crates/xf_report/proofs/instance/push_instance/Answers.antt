@@ -1,6 +1,6 @@
 use Rattle.std.proofs.Common.{◌++◌, ◌∙◌, ap, sym}
 use Rattle.std.specs.Prelude.{string_bytes}
-use Rattle.xf_doc.proofs.TextLaws.{in_forest}
+use Rattle.xf_def_forest.proofs.TextLaws.{in_forest}
 use Rattle.xf_report.specs.Lines.{block_text}
 use Rattle.xf_report.proofs.AnswerLaws.{then-ok}
 use Rattle.xf_report.proofs.LineLaws.{instance-lines}

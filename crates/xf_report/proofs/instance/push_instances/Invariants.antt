@@ -1,6 +1,6 @@
 use Rattle.std.proofs.Common.{◌≡◌, ◌-◌, ◌++◌, length, string_bytes}
 use Rattle.std.specs.List.{flat_map}
-use Rattle.xf_form_machine.specs.Cycles.{counted_from}
+use Rattle.xf_def_machine.specs.Cycles.{counted_from}
 use Rattle.xf_report.specs.Lines.{block_of}
 use Rattle.xf_report.proofs.instance.push_instances.Given as goal
 

@@ -1,4 +1,4 @@
-use Rattle.xf_slots.specs.Seen.{seen_content}
+use Rattle.xf_tree_contents.specs.Seen.{seen_content}
 use Rattle.xf_report.proofs.LineLaws.{content-live}
 use Rattle.xf_report.proofs.instance.push_node.Goals as goal
 

@@ -1,6 +1,6 @@
 use Rattle.std.proofs.Common.{◌++◌, ap, ◌∙◌}
-use Rattle.xf_doc.specs.Visit.{visits}
-use Rattle.xf_doc.proofs.PieceLaws.{joined, pieces-value}
+use Rattle.xf_def_forest.specs.Visit.{visits}
+use Rattle.xf_def_forest.proofs.PieceLaws.{joined, pieces-value}
 use Rattle.xf_report.proofs.instance.value_of.Goals as goal
 
 pub loop-piece-init : goal.loop-piece-init

@@ -1,8 +1,8 @@
 use Rattle.std.proofs.Common.{◌≡◌, ◌++◌, length}
 use Rattle.std.specs.Prelude.{string_bytes}
-use Rattle.xf_doc.specs.StringValue.{string_value}
-use Rattle.xf_doc.specs.Visit.{visits}
-use Rattle.xf_doc.proofs.PieceLaws.{joined}
+use Rattle.xf_def_forest.specs.StringValue.{string_value}
+use Rattle.xf_def_forest.specs.Visit.{visits}
+use Rattle.xf_def_forest.proofs.PieceLaws.{joined}
 use Rattle.xf_report.proofs.instance.value_of.Given as goal
 
 abbrev pub invariant-loop-piece : goal.invariant-loop-piece

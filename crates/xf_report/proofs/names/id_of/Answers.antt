@@ -1,5 +1,5 @@
 use Rattle.std.proofs.Common.{ap, sym}
-use Rattle.xf_ui.specs.Interface.{Element}
+use Rattle.xf_def_ui.specs.Interface.{Element}
 use Rattle.xf_report.proofs.NamedLemmas.{element-lost}
 use Rattle.xf_report.proofs.names.id_of.Goals as goal
 

@@ -1,7 +1,7 @@
 use Rattle.std.proofs.Common.{◌≡◌, ℕ, List, sym, subst, ◌∙◌}
 use Rattle.std.specs.Prelude.{IfOk}
-use Rattle.xf_doc.proofs.LiveLaws.{root-live}
-use Rattle.xf_doc.proofs.TextLaws.{in_forest}
+use Rattle.xf_def_forest.proofs.LiveLaws.{root-live}
+use Rattle.xf_def_forest.proofs.TextLaws.{in_forest}
 use Rattle.xf_report.proofs.NodeLaws.{nodes-are, nodes-none}
 use Rattle.xf_report.proofs.nodes.nodes_at.Goals as goal
 

@@ -1,9 +1,9 @@
 use Rattle.std.proofs.Common.{◌≡◌, ◌++◌, length, true}
 use Rattle.std.specs.List.{flat_map, list_all}
 use Rattle.xf_name.specs.declared.axis.Axis.TheVariants.{DescendantOrSelf}
-use Rattle.xf_doc.specs.Axis.{axis_of}
-use Rattle.xf_doc.specs.Forest.{has_number}
-use Rattle.xf_doc.specs.Visit.{visits}
+use Rattle.xf_def_forest.specs.Axis.{axis_of}
+use Rattle.xf_def_forest.specs.Forest.{has_number}
+use Rattle.xf_def_forest.specs.Visit.{visits}
 use Rattle.xf_report.specs.Lines.{with_attributes}
 use Rattle.xf_report.proofs.nodes.nodes_under.Given as goal
 

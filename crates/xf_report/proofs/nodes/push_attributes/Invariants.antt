@@ -1,7 +1,7 @@
 use Rattle.std.proofs.Common.{◌≡◌, ◌++◌, length}
 use Rattle.xf_name.specs.declared.axis.Axis.TheVariants.{Attribute}
-use Rattle.xf_doc.specs.Axis.{axis_of}
-use Rattle.xf_doc.specs.Visit.{visits}
+use Rattle.xf_def_forest.specs.Axis.{axis_of}
+use Rattle.xf_def_forest.specs.Visit.{visits}
 use Rattle.xf_report.proofs.nodes.push_attributes.Given as goal
 
 abbrev pub invariant-loop-attribute : goal.invariant-loop-attribute

@@ -1,5 +1,5 @@
 use Rattle.std.proofs.Common.{◌≡◌, ◌++◌, drop, string_bytes}
-use Rattle.xf_form_machine.specs.Replies.{note_lines}
+use Rattle.xf_def_machine.specs.Replies.{note_lines}
 use Rattle.xf_report.proofs.note.push_notes.Given as goal
 
 abbrev pub invariant-loop-note : goal.invariant-loop-note

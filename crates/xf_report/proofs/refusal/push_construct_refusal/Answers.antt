@@ -1,6 +1,6 @@
 use Rattle.std.proofs.Common.{◌++◌, codes, ap, sym, ◌∙◌}
 use Rattle.std.specs.Prelude.{string_bytes}
-use Rattle.xf_form_machine.specs.StateText.{line_of}
+use Rattle.xf_def_machine.specs.StateText.{line_of}
 use Rattle.xf_report.specs.Refusals.{construct_text, details}
 use Rattle.xf_report.proofs.AnswerLaws.{then-ok}
 use Rattle.xf_report.proofs.refusal.push_construct_refusal.Goals as goal

@@ -1,6 +1,6 @@
 use Rattle.std.proofs.Common.{◌≡◌, ◌++◌, drop, string_bytes}
 use Rattle.std.specs.List.{flat_map}
-use Rattle.xf_form_machine.specs.StateText.{spaced}
+use Rattle.xf_def_machine.specs.StateText.{spaced}
 use Rattle.xf_report.proofs.refusal.push_paths.Given as goal
 
 abbrev pub invariant-loop-path : goal.invariant-loop-path

@@ -1,5 +1,5 @@
 use Rattle.std.proofs.Common.{◌≡◌, ◌+◌, length}
-use Rattle.xf_history.specs.Opening.{difference_from}
+use Rattle.xf_def_sessions.specs.Opening.{difference_from}
 use Rattle.xf_session.proofs.looking.difference.Given as goal
 
 abbrev pub invariant-loop-byte : goal.invariant-loop-byte

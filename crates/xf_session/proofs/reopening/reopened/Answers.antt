@@ -1,8 +1,8 @@
 use Rattle.std.proofs.Common.{◌≡◌, Err, ap, sym, subst, rules}
 use Rattle.xf_store.specs.Replay.{Covers}
-use Rattle.xf_form_machine.specs.Run.{if_exact}
-use Rattle.xf_form_machine.specs.Start.{start}
-use Rattle.xf_processor.specs.Formed.{profile}
+use Rattle.xf_def_machine.specs.Run.{if_exact}
+use Rattle.xf_def_machine.specs.Start.{start}
+use Rattle.xf_def_form.specs.Formed.{profile}
 use Rattle.xf_session.specs.Opening.{opening_from}
 use Rattle.xf_session.specs.Replaying.{Reopens}
 use Rattle.xf_session.proofs.Played.{covered, start-kept, start-refused}

@@ -1,9 +1,9 @@
 use Rattle.std.proofs.Common.{◌≡◌, ◌≤◌, ◌<◌, ◌∙◌, true, List, length, ap, sym, subst, arith, rules, refl}
 use Rattle.xf_journal.specs.Entry.{are_within}
 use Rattle.xf_journal.specs.declared.entry.Accepted.{Accepted}
-use Rattle.xf_form_machine.specs.Replies.{answers_in}
-use Rattle.xf_history.specs.Opening.{damaged, at_cut}
-use Rattle.xf_history.specs.Sessions.{fresh_session}
+use Rattle.xf_def_machine.specs.Replies.{answers_in}
+use Rattle.xf_def_sessions.specs.Opening.{damaged, at_cut}
+use Rattle.xf_def_sessions.specs.Sessions.{fresh_session}
 use Rattle.xf_session.specs.Replaying.{same_answers}
 use Rattle.xf_session.proofs.Played.{left-within, left-damaged, all-replayed}
 use Rattle.xf_session.proofs.reopening.replay.Goals as goal

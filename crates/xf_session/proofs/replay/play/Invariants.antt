@@ -1,5 +1,5 @@
 use Rattle.std.proofs.Common.{◌≡◌, ◌≤◌, ◌-◌, None, length, drop}
-use Rattle.xf_processor.specs.Formed.{profile}
+use Rattle.xf_def_form.specs.Formed.{profile}
 use Rattle.xf_session.specs.Replaying.{played}
 use Rattle.xf_session.proofs.replay.play.Given as goal
 

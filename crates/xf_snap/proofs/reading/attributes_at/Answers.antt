@@ -1,5 +1,5 @@
 use Rattle.std.proofs.Common.{◌≡◌, ◌∙◌, ◌-◌, ◌++◌, ◌∷◌, [], List, Some, None, sym, subst, arith, rules}
-use Rattle.xf_doc.specs.declared.bare.BareAttribute.{BareAttribute}
+use Rattle.xf_def_forest.specs.declared.bare.BareAttribute.{BareAttribute}
 use Rattle.xf_snap.specs.Reading.{attribute_at, several}
 use Rattle.xf_snap.proofs.SeveralLemmas.{with_front, goes_on, ends, is_done}
 use Rattle.xf_snap.proofs.reading.attributes_at.Goals as goal

@@ -4,7 +4,7 @@ use Rattle.std.specs.List.{flat_map, list_all}
 use Rattle.std.proofs.lemmas.Bool.{and_from}
 use Rattle.std.proofs.lemmas.List.{take_all}
 use Rattle.std.proofs.lemmas.List.Elements.{All-get_or}
-use Rattle.xf_doc.specs.declared.bare.Bare.{Bare}
+use Rattle.xf_def_forest.specs.declared.bare.Bare.{Bare}
 use Rattle.xf_snap.specs.Numbers.{two, four}
 use Rattle.xf_snap.specs.Spelling.{name_bytes, attribute_bytes, tree_bytes}
 use Rattle.xf_snap.specs.Within.{is_fit, is_typed, is_typed_name, is_typed_attribute, tree_nodes}

@@ -1,7 +1,7 @@
 use Rattle.std.proofs.Common.{ap, ◌∙◌}
-use Rattle.xf_doc.specs.Visit.{first_of}
-use Rattle.xf_context.proofs.FirstLaws.{first-yielded}
-use Rattle.xf_context.proofs.AroundLaws.{children-axis}
+use Rattle.xf_def_forest.specs.Visit.{first_of}
+use Rattle.xf_eval_context.proofs.FirstLaws.{first-yielded}
+use Rattle.xf_eval_context.proofs.AroundLaws.{children-axis}
 use Rattle.xf_submit.proofs.nodes.first_child.Goals as goal
 
 pub returns : goal.returns

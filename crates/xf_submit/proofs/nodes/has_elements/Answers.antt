@@ -1,13 +1,13 @@
 use Rattle.std.proofs.Common.{◌≡◌, List, ℕ, ◌++◌, map, sym, ap, ◌∙◌}
 use Rattle.std.specs.List.{list_any}
-use Rattle.xf_doc.specs.declared.node.NodeId.{NodeId}
-use Rattle.xf_doc.specs.Axis.{axis_of}
-use Rattle.xf_doc.specs.Forest.{content_at}
-use Rattle.xf_doc.specs.Visit.{visits}
+use Rattle.xf_def_forest.specs.declared.node.NodeId.{NodeId}
+use Rattle.xf_def_forest.specs.Axis.{axis_of}
+use Rattle.xf_def_forest.specs.Forest.{content_at}
+use Rattle.xf_def_forest.specs.Visit.{visits}
 use Rattle.xf_name.specs.declared.axis.Axis.TheVariants.{Child}
-use Rattle.xf_shape.specs.Spots.{is_element_in}
-use Rattle.xf_shape.proofs.Filled.{append-none}
-use Rattle.xf_shape.proofs.Reached.{any-here, children-any}
+use Rattle.xf_eval_shape.specs.Spots.{is_element_in}
+use Rattle.xf_eval_shape.proofs.Filled.{append-none}
+use Rattle.xf_eval_shape.proofs.Reached.{any-here, children-any}
 use Rattle.xf_submit.proofs.NodeLaws.{no-elements}
 use Rattle.xf_submit.proofs.nodes.has_elements.Goals as goal
 

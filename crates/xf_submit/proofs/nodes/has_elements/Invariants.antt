@@ -1,7 +1,7 @@
 use Rattle.std.proofs.Common.{◌≡◌, ◌++◌, false, map}
 use Rattle.std.specs.List.{list_any}
-use Rattle.xf_doc.specs.Forest.{content_at}
-use Rattle.xf_shape.specs.Spots.{is_element_in}
+use Rattle.xf_def_forest.specs.Forest.{content_at}
+use Rattle.xf_eval_shape.specs.Spots.{is_element_in}
 use Rattle.xf_submit.proofs.nodes.has_elements.Given as goal
 
 abbrev pub invariant-loop-child : goal.invariant-loop-child

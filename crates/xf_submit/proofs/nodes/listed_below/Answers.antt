@@ -1,8 +1,8 @@
 use Rattle.std.proofs.Common.{◌++◌, ap, ◌∙◌}
 use Rattle.std.specs.List.{flat_map, list_all}
 use Rattle.xf_name.specs.declared.axis.Axis.TheVariants.{DescendantOrSelf}
-use Rattle.xf_doc.specs.Forest.{has_number}
-use Rattle.xf_doc.proofs.LiveLaws.{axis-all_live}
+use Rattle.xf_def_forest.specs.Forest.{has_number}
+use Rattle.xf_def_forest.proofs.LiveLaws.{axis-all_live}
 use Rattle.xf_submit.specs.Selecting.{with_attributes}
 use Rattle.xf_submit.proofs.nodes.listed_below.Goals as goal
 

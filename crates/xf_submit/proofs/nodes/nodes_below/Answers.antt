@@ -1,6 +1,6 @@
 use Rattle.std.proofs.Common.{◌≡◌, ℕ, List, subst}
 use Rattle.std.specs.Prelude.{IfOk}
-use Rattle.xf_doc.proofs.TextLaws.{in_forest}
+use Rattle.xf_def_forest.proofs.TextLaws.{in_forest}
 use Rattle.xf_submit.proofs.BelowLaws.{below-are}
 use Rattle.xf_submit.proofs.nodes.nodes_below.Goals as goal
 

@@ -1,7 +1,7 @@
 use Rattle.std.proofs.Common.{◌++◌, map, ap, ◌∙◌}
 use Rattle.std.specs.Prelude.{filter}
-use Rattle.xf_doc.specs.Visit.{visits}
-use Rattle.xf_model.specs.Submitted.{left_by}
+use Rattle.xf_def_forest.specs.Visit.{visits}
+use Rattle.xf_def_model.specs.Submitted.{left_by}
 use Rattle.xf_submit.specs.Selecting.{relevant_by}
 use Rattle.xf_submit.proofs.BelowLaws.{is_below}
 use Rattle.xf_submit.proofs.NodeLaws.{filter-numbers}

@@ -1,7 +1,7 @@
 use Rattle.std.proofs.Common.{◌≡◌, ℕ, true, false, Option, ap, subst, sym, ◌∙◌}
 use Rattle.std.specs.Prelude.{IfOk}
-use Rattle.xf_doc.specs.Visit.{visits}
-use Rattle.xf_model.specs.Submitted.{left_by, sent_from}
+use Rattle.xf_def_forest.specs.Visit.{visits}
+use Rattle.xf_def_model.specs.Submitted.{left_by, sent_from}
 use Rattle.xf_submit.specs.Selecting.{relevant_by, seen_chosen, valid_by}
 use Rattle.xf_submit.proofs.NodeLaws.{element-kind, element-of}
 use Rattle.xf_submit.proofs.selecting.left_of.Goals as goal

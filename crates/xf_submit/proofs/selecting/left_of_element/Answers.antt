@@ -1,7 +1,7 @@
 use Rattle.std.proofs.Common.{◌≡◌, ℕ, Bool, true, not, Some, None, List, ap, sym, ◌∙◌}
 use Rattle.std.specs.Prelude.{find}
-use Rattle.xf_doc.specs.Visit.{Visit, visits}
-use Rattle.xf_model.specs.Submitted.{kept_below, left, left_by}
+use Rattle.xf_def_forest.specs.Visit.{Visit, visits}
+use Rattle.xf_def_model.specs.Submitted.{kept_below, left, left_by}
 use Rattle.xf_submit.specs.Selecting.{relevant_by, valid_by}
 use Rattle.xf_submit.proofs.LeftLaws.{sent-all, sent-valid}
 use Rattle.xf_submit.proofs.NodeLaws.{element-live}

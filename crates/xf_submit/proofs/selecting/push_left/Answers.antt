@@ -1,4 +1,4 @@
-use Rattle.xf_model.specs.Submitted.{left_by}
+use Rattle.xf_def_model.specs.Submitted.{left_by}
 use Rattle.xf_submit.specs.Selecting.{relevant_by}
 use Rattle.xf_submit.proofs.NodeLaws.{left-end, left-next}
 use Rattle.xf_submit.proofs.selecting.push_left.Goals as goal

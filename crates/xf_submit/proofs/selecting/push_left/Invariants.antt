@@ -1,6 +1,6 @@
 use Rattle.std.proofs.Common.{◌≡◌, ◌++◌, map, drop}
 use Rattle.std.specs.Prelude.{filter}
-use Rattle.xf_model.specs.Submitted.{left_by}
+use Rattle.xf_def_model.specs.Submitted.{left_by}
 use Rattle.xf_submit.specs.Selecting.{relevant_by}
 use Rattle.xf_submit.proofs.selecting.push_left.Given as goal
 

@@ -1,7 +1,7 @@
 use Rattle.std.proofs.Common.{ap, ◌∙◌}
-use Rattle.xf_lang.specs.Given.{first_document}
-use Rattle.xf_context.specs.Around.{documents_by, numbers_of}
-use Rattle.xf_context.proofs.AroundLaws.{documents-found}
+use Rattle.xf_def_xpath.specs.Given.{first_document}
+use Rattle.xf_eval_context.specs.Around.{documents_by, numbers_of}
+use Rattle.xf_eval_context.proofs.AroundLaws.{documents-found}
 use Rattle.xf_submit.proofs.sources.first_document.Goals as goal
 
 pub returns : goal.returns

@@ -1,7 +1,7 @@
 use Rattle.std.proofs.Common.{ap, ◌∙◌}
-use Rattle.xf_context.specs.Around.{is_event_live, numbers_of}
-use Rattle.xf_context.specs.Indexes.{indexes_in}
-use Rattle.xf_context.proofs.AroundLaws.{around-stands, documents-found}
+use Rattle.xf_eval_context.specs.Around.{is_event_live, numbers_of}
+use Rattle.xf_eval_context.specs.Indexes.{indexes_in}
+use Rattle.xf_eval_context.proofs.AroundLaws.{around-stands, documents-found}
 use Rattle.xf_submit.proofs.sources.first_nested.Goals as goal
 
 pub nested-requires : goal.nested-requires

@@ -1,9 +1,9 @@
 use Rattle.std.proofs.Common.{◌≡◌, ◌<◌, ◌≤◌, true, false, length, nat_lt, option_map, ap, sym, ◌∙◌, arith}
 use Rattle.std.proofs.lemmas.Bool.Decides.{nat_tests}
-use Rattle.xf_doc.specs.declared.node.NodeId.{NodeId}
-use Rattle.xf_lang.specs.declared.fault.EvalFault.TheVariants.{Long, Memory}
+use Rattle.xf_def_forest.specs.declared.node.NodeId.{NodeId}
+use Rattle.xf_def_xpath.specs.declared.fault.EvalFault.TheVariants.{Long, Memory}
 use Rattle.xf_eval.proofs.Bounded.{gives-same}
-use Rattle.xf_model.specs.Submitted.{first_in}
+use Rattle.xf_def_model.specs.Submitted.{first_in}
 use Rattle.xf_submit.proofs.SourceLaws.{bind-none, bind-own}
 use Rattle.xf_submit.proofs.sources.first_of_bind.Goals as goal
 

@@ -1,12 +1,12 @@
 use Rattle.std.proofs.Common.{Some, option_map, ap, sym, ◌∙◌}
 use Rattle.xf_base.specs.Limits.{string_limit}
-use Rattle.xf_doc.specs.declared.node.NodeId.{NodeId}
-use Rattle.xf_doc.specs.Visit.{visits}
-use Rattle.xf_lang.specs.declared.fault.EvalFault.TheVariants.{Long, Memory}
-use Rattle.xf_lang.specs.Given.{first_document}
-use Rattle.xf_model.specs.Submitted.{selected_by}
+use Rattle.xf_def_forest.specs.declared.node.NodeId.{NodeId}
+use Rattle.xf_def_forest.specs.Visit.{visits}
+use Rattle.xf_def_xpath.specs.declared.fault.EvalFault.TheVariants.{Long, Memory}
+use Rattle.xf_def_xpath.specs.Given.{first_document}
+use Rattle.xf_def_model.specs.Submitted.{selected_by}
 use Rattle.xf_eval.proofs.Bounded.{gives-same}
-use Rattle.xf_context.specs.Over.{around_over}
+use Rattle.xf_eval_context.specs.Over.{around_over}
 use Rattle.xf_submit.specs.Selecting.{scope_over}
 use Rattle.xf_submit.proofs.SourceLaws.{first-listed}
 use Rattle.xf_submit.proofs.sources.selected_node.Goals as goal

@@ -1,8 +1,8 @@
 use Rattle.std.proofs.Common.{◌≡◌, true, ap, subst, sym, refl, ◌∙◌}
-use Rattle.xf_doc.specs.declared.content.Kind.TheVariants as kind
-use Rattle.xf_doc.specs.Forest.{has_number, kind_at}
-use Rattle.xf_doc.specs.Visit.{children_of, first_of, visits}
-use Rattle.xf_doc.proofs.LiveLaws.{top-live}
+use Rattle.xf_def_forest.specs.declared.content.Kind.TheVariants as kind
+use Rattle.xf_def_forest.specs.Forest.{has_number, kind_at}
+use Rattle.xf_def_forest.specs.Visit.{children_of, first_of, visits}
+use Rattle.xf_def_forest.proofs.LiveLaws.{top-live}
 use Rattle.xf_submit.proofs.NodeLaws.{document-absent, document-none, document-under}
 use Rattle.xf_submit.proofs.targets.document_around.Goals as goal
 

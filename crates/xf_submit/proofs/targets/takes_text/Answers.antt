@@ -1,5 +1,5 @@
 use Rattle.std.proofs.Common.{not, ◌&&◌, ap, sym, ◌∙◌}
-use Rattle.xf_ui.specs.declared.marks.Marks.{Marks}
+use Rattle.xf_def_ui.specs.declared.marks.Marks.{Marks}
 use Rattle.xf_submit.proofs.targets.takes_text.Goals as goal
 
 pub returns-then-has_elements : goal.returns-then-has_elements

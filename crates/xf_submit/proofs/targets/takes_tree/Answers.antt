@@ -1,5 +1,5 @@
 use Rattle.std.proofs.Common.{not, ◌&&◌, ap, sym, ◌∙◌}
-use Rattle.xf_ui.specs.declared.marks.Marks.{Marks}
+use Rattle.xf_def_ui.specs.declared.marks.Marks.{Marks}
 use Rattle.xf_submit.proofs.NodeLaws.{element-among}
 use Rattle.xf_submit.proofs.targets.takes_tree.Goals as goal
 

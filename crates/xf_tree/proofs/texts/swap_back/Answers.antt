@@ -1,7 +1,7 @@
 use Rattle.std.proofs.Common.{◌+◌, ◌-◌, length, map, ap, ◌∙◌, subst, arith}
-use Rattle.xf_doc.specs.Limits.{node_count, all_size}
-use Rattle.xf_walks.specs.Nodes.{KeepsBut, node_of, times}
-use Rattle.xf_changes.specs.Texts.{children, run_of, depth_at}
+use Rattle.xf_def_forest.specs.Limits.{node_count, all_size}
+use Rattle.xf_tree_walks.specs.Nodes.{KeepsBut, node_of, times}
+use Rattle.xf_tree_changes.specs.Texts.{children, run_of, depth_at}
 use Rattle.xf_tree.proofs.SwappedLemmas.{run-part, part-times}
 use Rattle.xf_tree.proofs.texts.swap_back.Goals as goal
 

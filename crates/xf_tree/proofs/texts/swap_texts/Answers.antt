@@ -1,8 +1,8 @@
 use Rattle.std.proofs.Common.{◌≡◌, ◌+◌, ◌-◌, ◌++◌, ◌∷◌, [], ℕ, List, length, map, take, drop, ap, ◌∙◌, subst, arith}
 use Rattle.slab.specs.Slab.{Updates}
-use Rattle.xf_doc.specs.declared.node.NodeId.{NodeId}
-use Rattle.xf_changes.specs.Trees.{unsized}
-use Rattle.xf_changes.specs.Texts.{text_slot, text_count, children, keys_of, numbers_at, numbers_in, run_of, with_text_rows, IsOwned}
+use Rattle.xf_def_forest.specs.declared.node.NodeId.{NodeId}
+use Rattle.xf_tree_changes.specs.Trees.{unsized}
+use Rattle.xf_tree_changes.specs.Texts.{text_slot, text_count, children, keys_of, numbers_at, numbers_in, run_of, with_text_rows, IsOwned}
 use Rattle.xf_tree.proofs.SwappedLemmas.{run-part, taken-long}
 use Rattle.xf_tree.proofs.texts.swap_texts.Goals as goal
 

@@ -1,5 +1,5 @@
 use Rattle.std.proofs.Common.{sym, ◌∙◌}
-use Rattle.xf_doc.specs.Forest.{has_number}
+use Rattle.xf_def_forest.specs.Forest.{has_number}
 use Rattle.xf_undo.proofs.ChildLemmas.{attribute-test, attribute-none, not-live}
 use Rattle.xf_undo.proofs.entry.is_attribute.Goals as goal
 

@@ -1,7 +1,7 @@
 use Rattle.std.proofs.Common.{◌≡◌, Bool, true, false, not, ◌&&◌, refl, sym, ap, ◌∙◌}
-use Rattle.xf_doc.specs.Forest.{has_number}
-use Rattle.xf_doc.specs.Texts.{is_attribute_at}
-use Rattle.xf_doc.specs.Visit.{visits, parent_of}
+use Rattle.xf_def_forest.specs.Forest.{has_number}
+use Rattle.xf_def_forest.specs.Texts.{is_attribute_at}
+use Rattle.xf_def_forest.specs.Visit.{visits, parent_of}
 use Rattle.xf_undo.specs.Children.{is_number}
 use Rattle.xf_undo.proofs.ChildLemmas.{child-test, child-none, not-live}
 use Rattle.xf_undo.proofs.entry.is_child.Goals as goal

@@ -1,6 +1,6 @@
 use Rattle.std.proofs.Common.{◌≡◌, true, ◌≤◌, length, take}
-use Rattle.xf_doc.specs.Undo.{is_known}
-use Rattle.xf_doc.specs.WellFormed.{are_apart}
+use Rattle.xf_def_forest.specs.Undo.{is_known}
+use Rattle.xf_def_forest.specs.WellFormed.{are_apart}
 use Rattle.xf_undo.specs.Entries.{entries_of}
 use Rattle.xf_undo.proofs.entry.is_known.Given as goal
 

@@ -1,6 +1,6 @@
 use Rattle.std.proofs.Common.{◌≡◌, length}
-use Rattle.xf_doc.specs.Undo.{undone_all}
-use Rattle.xf_rollback_laws.specs.Back.{CanUndoAll}
+use Rattle.xf_def_forest.specs.Undo.{undone_all}
+use Rattle.xf_law_forests.specs.Rollback.Back.{CanUndoAll}
 use Rattle.xf_undo.specs.Entries.{entries_of}
 use Rattle.xf_undo.proofs.entry.undo_all.Given as goal
 

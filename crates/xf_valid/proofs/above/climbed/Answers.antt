@@ -1,10 +1,10 @@
 use Rattle.std.proofs.Common.{◌≡◌, ◌<◌, ◌&&◌, ◌||◌, true, length, Some, None, sym, ap, ◌∙◌, refl, arith}
 use Rattle.std.specs.List.{list_all, list_any}
-use Rattle.xf_doc.specs.Forest.{has_number}
-use Rattle.xf_doc.specs.Visit.{visits, ancestors_of}
-use Rattle.xf_doc.proofs.LiveLaws.{parent-live}
-use Rattle.xf_model.specs.declared.property.Property.TheVariants.{Relevant}
-use Rattle.xf_model.specs.Properties.{own, own_readonly}
+use Rattle.xf_def_forest.specs.Forest.{has_number}
+use Rattle.xf_def_forest.specs.Visit.{visits, ancestors_of}
+use Rattle.xf_def_forest.proofs.LiveLaws.{parent-live}
+use Rattle.xf_def_model.specs.declared.property.Property.TheVariants.{Relevant}
+use Rattle.xf_def_model.specs.Properties.{own, own_readonly}
 use Rattle.xf_binds.specs.Kept.{values_in}
 use Rattle.xf_valid.specs.Nodes.{readonly_in, relevant_in}
 use Rattle.xf_valid.proofs.Unset.{and-true, closed-readonly, closed-relevant, number_of, or-false, path, path-shorter, path-up, readonly-at, readonly-here, relevant-at, relevant-here}

@@ -1,6 +1,6 @@
 use Rattle.std.proofs.Common.{◌∷◌, true, false, sym, ◌∙◌}
-use Rattle.xf_doc.specs.Forest.{has_number}
-use Rattle.xf_doc.specs.Visit.{visits, ancestors_of}
+use Rattle.xf_def_forest.specs.Forest.{has_number}
+use Rattle.xf_def_forest.specs.Visit.{visits, ancestors_of}
 use Rattle.xf_valid.proofs.Dead.{not-live, relevant-dead, readonly-dead}
 use Rattle.xf_valid.proofs.Unset.{closed-relevant, closed-readonly}
 use Rattle.xf_valid.proofs.above.inherited_by.Goals as goal

@@ -1,6 +1,6 @@
 use Rattle.std.proofs.Common.{refl, sym, ◌∙◌}
 use Rattle.std.proofs.lemmas.Bool.{OnFalse_at}
-use Rattle.xf_model.specs.declared.property.Property.TheVariants.{Calculate}
+use Rattle.xf_def_model.specs.declared.property.Property.TheVariants.{Calculate}
 use Rattle.xf_binds.proofs.Truths.{has-among}
 use Rattle.xf_valid.proofs.Unset.{has-unset}
 use Rattle.xf_valid.proofs.above.is_calculated.Goals as goal

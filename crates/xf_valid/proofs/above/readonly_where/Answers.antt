@@ -1,6 +1,6 @@
 use Rattle.std.proofs.Common.{ap, ◌∙◌}
-use Rattle.xf_model.specs.declared.property.Property.TheVariants.{Readonly}
-use Rattle.xf_model.specs.Properties.{own}
+use Rattle.xf_def_model.specs.declared.property.Property.TheVariants.{Readonly}
+use Rattle.xf_def_model.specs.Properties.{own}
 use Rattle.xf_binds.specs.Kept.{values_in}
 use Rattle.xf_valid.proofs.above.readonly_where.Goals as goal
 

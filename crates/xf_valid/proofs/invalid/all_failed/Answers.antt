@@ -1,5 +1,5 @@
 use Rattle.std.proofs.Common.{◌≤◌, length, arith}
-use Rattle.xf_model.specs.Rules.{scope_of}
+use Rattle.xf_def_model.specs.Rules.{scope_of}
 use Rattle.xf_binds.specs.Table.{kept_at}
 use Rattle.xf_valid.proofs.InvalidLemmas.{failed-more, failed-all}
 use Rattle.xf_valid.proofs.invalid.all_failed.Goals as goal

@@ -1,7 +1,7 @@
 use Rattle.std.proofs.Common.{◌≡◌, ◌++◌, drop}
-use Rattle.xf_plain_values.specs.Functions.{Functions}
-use Rattle.xf_lang.specs.Given.{Given}
-use Rattle.xf_model.specs.Rules.{scope_of}
+use Rattle.xf_def_values.specs.Functions.{Functions}
+use Rattle.xf_def_xpath.specs.Given.{Given}
+use Rattle.xf_def_model.specs.Rules.{scope_of}
 use Rattle.xf_binds.specs.Table.{kept_at}
 use Rattle.xf_valid.specs.Failed.{failed_among}
 use Rattle.xf_valid.proofs.invalid.all_failed.Given as goal

@@ -1,6 +1,6 @@
 use Rattle.std.proofs.Common.{sym, ◌∙◌}
-use Rattle.xf_doc.specs.StringValue.{string_value}
-use Rattle.xf_doc.specs.Visit.{visits}
+use Rattle.xf_def_forest.specs.StringValue.{string_value}
+use Rattle.xf_def_forest.specs.Visit.{visits}
 use Rattle.xf_valid.proofs.AskedLemmas.{fails-unmet, fails-missing, fails-else}
 use Rattle.xf_valid.proofs.invalid.fails.Goals as goal
 

@@ -1,5 +1,5 @@
 use Rattle.std.proofs.Common.{◌∙◌}
-use Rattle.xf_doc.specs.Visit.{visits}
+use Rattle.xf_def_forest.specs.Visit.{visits}
 use Rattle.xf_valid.proofs.Pieces.{many-filled, one-filled}
 use Rattle.xf_valid.proofs.invalid.is_empty.Goals as goal
 

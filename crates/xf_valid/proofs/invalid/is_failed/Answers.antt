@@ -1,6 +1,6 @@
 use Rattle.std.proofs.Common.{refl, sym, ap, ◌∙◌}
-use Rattle.xf_doc.specs.Visit.{has}
-use Rattle.xf_model.specs.Rules.{scope_of}
+use Rattle.xf_def_forest.specs.Visit.{has}
+use Rattle.xf_def_model.specs.Rules.{scope_of}
 use Rattle.xf_binds.specs.Table.{kept_at}
 use Rattle.xf_valid.proofs.AskedLemmas.{failed-unasked, fails-asked, if-ok}
 use Rattle.xf_valid.proofs.InvalidLemmas.{failed-inside, failed-outside}

@@ -1,7 +1,7 @@
 use Rattle.std.proofs.Common.{ap, sym, ◌∙◌}
 use Rattle.xf_schema.specs.Facets.{is_of_type}
-use Rattle.xf_doc.specs.Visit.{visits}
-use Rattle.xf_doc.proofs.PieceLaws.{whole-value}
+use Rattle.xf_def_forest.specs.Visit.{visits}
+use Rattle.xf_def_forest.proofs.PieceLaws.{whole-value}
 use Rattle.xf_valid.proofs.AskedLemmas.{if-ok}
 use Rattle.xf_valid.proofs.invalid.meets_at.Goals as goal
 

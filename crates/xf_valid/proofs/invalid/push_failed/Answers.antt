@@ -1,5 +1,5 @@
 use Rattle.std.proofs.Common.{[], ◌∷◌, ◌++◌, cond, ap, ◌∙◌}
-use Rattle.xf_model.specs.Rules.{scope_of}
+use Rattle.xf_def_model.specs.Rules.{scope_of}
 use Rattle.xf_binds.specs.Table.{kept_at}
 use Rattle.xf_valid.specs.Failed.{failed_at}
 use Rattle.xf_valid.proofs.InvalidLemmas.{on-ok}

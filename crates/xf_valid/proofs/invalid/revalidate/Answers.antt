@@ -1,7 +1,7 @@
 use Rattle.std.proofs.Common.{sym, ap, ◌∙◌}
-use Rattle.xf_doc.specs.Order.{in_order}
-use Rattle.xf_doc.specs.Visit.{visits}
-use Rattle.xf_model.specs.Rules.{scope_of}
+use Rattle.xf_def_forest.specs.Order.{in_order}
+use Rattle.xf_def_forest.specs.Visit.{visits}
+use Rattle.xf_def_model.specs.Rules.{scope_of}
 use Rattle.xf_binds.specs.Table.{kept_at, with_kept}
 use Rattle.xf_valid.specs.Failed.{failed_among, roots_from}
 use Rattle.xf_valid.proofs.AlikeLaws.{other-invalid, same-invalid}

@@ -1,7 +1,7 @@
 use Rattle.std.proofs.Common.{sym, ap, ◌∙◌, subst}
 use Rattle.std.specs.List.{list_all}
-use Rattle.xf_doc.specs.declared.node.NodeId.{NodeId}
-use Rattle.xf_doc.specs.Forest.{has_number}
+use Rattle.xf_def_forest.specs.declared.node.NodeId.{NodeId}
+use Rattle.xf_def_forest.specs.Forest.{has_number}
 use Rattle.xf_valid.specs.Chain.{AreTold}
 use Rattle.xf_valid.specs.Nodes.{marks_in, relevant_in, readonly_in}
 use Rattle.xf_valid.proofs.Told.{live-at, marked-more, marks-same, told-more}

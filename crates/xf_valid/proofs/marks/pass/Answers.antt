@@ -1,7 +1,7 @@
 use Rattle.std.proofs.Common.{◌&&◌, ◌||◌, true, sym, ap, ◌∙◌}
-use Rattle.xf_doc.proofs.LiveLaws.{parent-live}
-use Rattle.xf_model.specs.declared.property.Property.TheVariants.{Relevant}
-use Rattle.xf_model.specs.Properties.{own, own_readonly}
+use Rattle.xf_def_forest.proofs.LiveLaws.{parent-live}
+use Rattle.xf_def_model.specs.declared.property.Property.TheVariants.{Relevant}
+use Rattle.xf_def_model.specs.Properties.{own, own_readonly}
 use Rattle.xf_binds.specs.Kept.{values_in}
 use Rattle.xf_valid.proofs.Inherited.{relevant-top, relevant-up, readonly-top, readonly-up}
 use Rattle.xf_valid.proofs.marks.pass.Goals as goal

@@ -1,4 +1,4 @@
-use Rattle.xf_model.specs.declared.property.Property.TheVariants.{Required}
+use Rattle.xf_def_model.specs.declared.property.Property.TheVariants.{Required}
 use Rattle.xf_valid.proofs.Unset.{unset-from}
 use Rattle.xf_valid.proofs.nodes.is_required.Goals as goal
 

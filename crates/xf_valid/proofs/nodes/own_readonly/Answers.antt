@@ -1,6 +1,6 @@
 use Rattle.std.proofs.Common.{refl, sym, ap, ◌∙◌}
-use Rattle.xf_model.specs.declared.property.Property.TheVariants.{Calculate, Readonly}
-use Rattle.xf_model.specs.Properties.{own}
+use Rattle.xf_def_model.specs.declared.property.Property.TheVariants.{Calculate, Readonly}
+use Rattle.xf_def_model.specs.Properties.{own}
 use Rattle.xf_binds.specs.Kept.{values_in}
 use Rattle.xf_binds.proofs.Truths.{has-among}
 use Rattle.xf_valid.proofs.nodes.own_readonly.Goals as goal

@@ -1,6 +1,6 @@
 use Rattle.std.proofs.Common.{subst}
 use Rattle.std.specs.Prelude.{Option}
-use Rattle.xf_model.specs.Applied as applied
+use Rattle.xf_def_model.specs.Applied as applied
 use Rattle.xf_binds.specs.Held.{AreSingle, IsOnly, entries_in, holds}
 use Rattle.xf_binds.proofs.Singles.{only-seated, single-seated}
 use Rattle.xf_binds.proofs.applied.Applied.is_single.Goals as goal

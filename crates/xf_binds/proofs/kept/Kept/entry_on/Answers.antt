@@ -1,5 +1,5 @@
 use Rattle.std.proofs.Common.{Some, None, find, ap, ◌∙◌}
-use Rattle.xf_model.specs.Properties.{sets_on}
+use Rattle.xf_def_model.specs.Properties.{sets_on}
 use Rattle.xf_binds.proofs.Items.{found-entry}
 use Rattle.xf_binds.proofs.kept.Kept.entry_on.Goals as goal
 

@@ -1,5 +1,5 @@
 use Rattle.std.proofs.Common.{is_some, find, ap, ◌∙◌}
-use Rattle.xf_model.specs.Properties.{sets_on}
+use Rattle.xf_def_model.specs.Properties.{sets_on}
 use Rattle.xf_binds.proofs.Unset.{told-found}
 use Rattle.xf_binds.proofs.kept.Kept.has.Goals as goal
 

@@ -1,6 +1,6 @@
 use Rattle.std.proofs.Common.{◌≡◌, Bool, true, Option, Some, None, List, not, is_some, filter, refl, ap, sym, ◌∙◌}
 use Rattle.std.proofs.lemmas.Bool.{OnTrue_from}
-use Rattle.xf_model.specs.Entries.{is_computed}
+use Rattle.xf_def_model.specs.Entries.{is_computed}
 use Rattle.xf_binds.specs.declared.kept.Since.TheVariants.{Nothing}
 use Rattle.xf_binds.specs.Held.{Held, entries_in}
 use Rattle.xf_binds.specs.Kept.{Kept, entries_of}

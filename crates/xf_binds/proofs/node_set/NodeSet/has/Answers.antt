@@ -1,5 +1,5 @@
 use Rattle.std.proofs.Common.{ap, ◌∙◌}
-use Rattle.xf_doc.specs.Visit.{has}
+use Rattle.xf_def_forest.specs.Visit.{has}
 use Rattle.xf_binds.proofs.NodeSets.{has-turned}
 use Rattle.xf_binds.proofs.node_set.NodeSet.has.Goals as goal
 

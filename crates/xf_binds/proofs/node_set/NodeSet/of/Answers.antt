@@ -1,5 +1,5 @@
 use Rattle.std.proofs.Common.{ap, ◌∙◌, take_all}
-use Rattle.xf_doc.specs.Visit.{has}
+use Rattle.xf_def_forest.specs.Visit.{has}
 use Rattle.xf_binds.proofs.NodeSets.{gathered, numbers_of}
 use Rattle.xf_binds.proofs.node_set.NodeSet.of.Goals as goal
 

@@ -1,6 +1,6 @@
 use Rattle.std.proofs.Common.{◌≡◌, ℕ, nat_eq, take}
 use Rattle.std.specs.HashSet.{contains}
-use Rattle.xf_doc.specs.Visit.{has}
+use Rattle.xf_def_forest.specs.Visit.{has}
 use Rattle.xf_binds.proofs.NodeSets.{numbers_of}
 use Rattle.xf_binds.proofs.node_set.NodeSet.of.Given as goal
 

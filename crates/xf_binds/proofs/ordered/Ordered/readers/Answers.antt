@@ -1,6 +1,6 @@
 use Rattle.std.proofs.Common.{◌≡◌, [], ap, sym, ◌∙◌}
 use Rattle.std.specs.Option.{option_copied}
-use Rattle.xf_doc.specs.Visit.{has}
+use Rattle.xf_def_forest.specs.Visit.{has}
 use Rattle.xf_binds.specs.Held.{entries_in}
 use Rattle.xf_binds.specs.Kept.{Entered}
 use Rattle.xf_binds.specs.Readers.{list_or, readers_at, reads_at}

@@ -1,8 +1,8 @@
 use Rattle.xf_line.specs.declared.event.Asked.TheVariants as asked
 use Rattle.std.proofs.Common.{Ok, string_bytes, true}
-use Rattle.xf_work.specs.Standing.{state_of}
-use Rattle.xf_form_machine.specs.Replies.{reply_read}
-use Rattle.xf_processor.specs.Formed.{profile}
+use Rattle.xf_engine_state.specs.Standing.{state_of}
+use Rattle.xf_def_machine.specs.Replies.{reply_read}
+use Rattle.xf_def_form.specs.Formed.{profile}
 use Rattle.xf_cli.specs.Replies.{IsReplied}
 use Rattle.xf_cli.proofs.ReplyLaws.{if_told, left_still, on_err}
 use Rattle.xf_cli.proofs.session.Session.answer_asked.Goals as goal

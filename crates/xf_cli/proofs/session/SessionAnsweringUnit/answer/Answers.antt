@@ -1,4 +1,4 @@
-use Rattle.xf_work.specs.Standing.{state_of}
+use Rattle.xf_engine_state.specs.Standing.{state_of}
 use Rattle.xf_cli.proofs.ReplyLaws.{said_reply}
 use Rattle.xf_cli.proofs.session.SessionAnsweringUnit.answer.Goals as goal
 

@@ -1,5 +1,5 @@
 use Rattle.std.proofs.Common.{option_map, refl, true}
-use Rattle.xf_work.specs.Standing.{state_of}
+use Rattle.xf_engine_state.specs.Standing.{state_of}
 use Rattle.xf_engine.specs.Running.{Pending, pending_in}
 use Rattle.xf_engine.proofs.RunningLaws.{not-started-so, started-pending}
 use Rattle.xf_engine.proofs.running.ConstructedStartingRunning.start.Goals as goal

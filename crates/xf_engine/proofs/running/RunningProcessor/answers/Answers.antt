@@ -1,6 +1,6 @@
 use Rattle.std.proofs.Common.{◌≡◌, ◌∙◌, ap, subst}
 use Rattle.std.specs.Prelude.{IfOk}
-use Rattle.xf_form_machine.specs.Replies.{answers_in}
+use Rattle.xf_def_machine.specs.Replies.{answers_in}
 use Rattle.xf_engine.proofs.RunningLaws.{are-within, calls-so}
 use Rattle.xf_engine.proofs.running.RunningProcessor.answers.Goals as goal
 

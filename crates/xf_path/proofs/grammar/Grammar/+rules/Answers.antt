@@ -12,7 +12,7 @@ use Rattle.xf_path.specs.Grammar.{negated, signed, sign_by, unary_by, side, insi
 use Rattle.xf_path.specs.Grammar as spec
 use Rattle.xf_path.proofs.Turns.{one_turn, no_turn, deeper}
 use Rattle.xf_path.proofs.GrammarLemmas.{behind_sign, signed_is, side_zero, inside_none, inside_some, operand_path, operand_primary, call_some, call_none, Reads-same, Reads-fault, links_end, links_go_on, predicates_end, predicates_go_on, arguments_end, arguments_go_on}
-use Rattle.xf_ast.specs.declared.expr.Expr.{Expr}
+use Rattle.xf_def_syntax.specs.declared.expr.Expr.{Expr}
 use Rattle.xf_path.proofs.Ladder.{climb, side_climbs, climb_none, climb_done, climb_on, chain_alone, no_sign}
 use Rattle.xf_path.proofs.grammar.Grammar.+rules.Goals.{side-in-Some+then-next-least, side-then-next-least-via-then-next-least, side-then-next-least-via-else-next-least+then-rank-next, side-in_default}
 use Rattle.xf_path.proofs.grammar.Grammar.+rules.Goals as goal

@@ -1,10 +1,10 @@
 use Rattle.std.proofs.Common.{◌≡◌, ℕ, ◌+◌, ◌^◌, ◌<◌, ◌≤◌, length, Ok, refl, sym, ap, ◌∙◌, subst, arith}
-use Rattle.xf_doc.specs.Forest.{Forest}
-use Rattle.xf_doc.specs.Limits.{unless}
-use Rattle.xf_doc.specs.Texts.{Keeping}
-use Rattle.xf_walks.specs.Nodes.{AllLive}
-use Rattle.xf_changes.specs.Trees.{size_of_all}
-use Rattle.xf_changes.proofs.PushLemmas.{kept-live}
+use Rattle.xf_def_forest.specs.Forest.{Forest}
+use Rattle.xf_def_forest.specs.Limits.{unless}
+use Rattle.xf_def_forest.specs.Texts.{Keeping}
+use Rattle.xf_tree_walks.specs.Nodes.{AllLive}
+use Rattle.xf_tree_changes.specs.Trees.{size_of_all}
+use Rattle.xf_tree_changes.proofs.PushLemmas.{kept-live}
 use Rattle.xf_tree.specs.Calls.{with_contents}
 use Rattle.xf_tree.specs.State.{IsState, keeping_of}
 use Rattle.xf_tree.proofs.AddLemmas.{moved-state, moved-view, added-state, added-view, bytes-most}

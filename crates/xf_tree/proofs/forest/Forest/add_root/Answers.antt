@@ -1,21 +1,21 @@
 use Rattle.std.proofs.Common.{◌≡◌, ◌+◌, ◌^◌, ◌<◌, ◌≤◌, ◌==◌, Some, true, length, get_or, option_map, refl, sym, ap, ◌∙◌, subst, arith}
 use Rattle.slab.specs.Slab.{get}
-use Rattle.xf_doc.specs.declared.content.Node.{Node}
-use Rattle.xf_doc.specs.Changes.{with_root}
-use Rattle.xf_doc.specs.Forest.{kind_of, kind_at, is_element}
-use Rattle.xf_doc.specs.Needs.{is_top}
-use Rattle.xf_doc.specs.Texts.{Keeping}
-use Rattle.xf_rows.specs.Rows.{no_row}
-use Rattle.xf_slots.specs.Keys.{content_in}
-use Rattle.xf_walks.specs.Nodes.{StandsAt}
-use Rattle.xf_walks.proofs.PlaceLemmas.{stands}
-use Rattle.xf_changes.proofs.PushLemmas.{insert-keeps}
+use Rattle.xf_def_forest.specs.declared.content.Node.{Node}
+use Rattle.xf_def_forest.specs.Changes.{with_root}
+use Rattle.xf_def_forest.specs.Forest.{kind_of, kind_at, is_element}
+use Rattle.xf_def_forest.specs.Needs.{is_top}
+use Rattle.xf_def_forest.specs.Texts.{Keeping}
+use Rattle.xf_tree_rows.specs.Rows.{no_row}
+use Rattle.xf_tree_contents.specs.Keys.{content_in}
+use Rattle.xf_tree_walks.specs.Nodes.{StandsAt}
+use Rattle.xf_tree_walks.proofs.PlaceLemmas.{stands}
+use Rattle.xf_tree_changes.proofs.PushLemmas.{insert-keeps}
 use Rattle.xf_tree.specs.State.{IsState, keeping_of}
 use Rattle.xf_tree.proofs.MeansLemmas.{one_of, content-means}
 use Rattle.xf_tree.proofs.AddLemmas.{moved-state, moved-view, kept-same, kept-texts, named-meets, zero-depth, element-is, stands-same}
 use Rattle.xf_tree.proofs.OverLemmas.{over-state, over-view}
 use Rattle.xf_tree.proofs.forest.Forest.add_root.Goals.{After-root_over-place}
-use Rattle.xf_doc.specs.declared.content.Kind.TheVariants as kind
+use Rattle.xf_def_forest.specs.declared.content.Kind.TheVariants as kind
 use Rattle.xf_tree.proofs.forest.Forest.add_root.Goals as goal
 
 pub make_way-requires : goal.make_way-requires

@@ -1,5 +1,5 @@
 use Rattle.std.proofs.Common.{subst}
-use Rattle.xf_doc.specs.WellFormed.{AreTrees}
+use Rattle.xf_def_forest.specs.WellFormed.{AreTrees}
 use Rattle.xf_tree.proofs.TreesLemmas.{sound-trees}
 use Rattle.xf_tree.proofs.forest.Forest.are_trees.Goals as goal
 

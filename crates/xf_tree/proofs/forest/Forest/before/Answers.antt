@@ -1,6 +1,6 @@
 use Rattle.std.proofs.Common.{sym, ap, ◌∙◌}
-use Rattle.xf_doc.specs.Order.{is_before}
-use Rattle.xf_doc.specs.Texts.{Keeping}
+use Rattle.xf_def_forest.specs.Order.{is_before}
+use Rattle.xf_def_forest.specs.Texts.{Keeping}
 use Rattle.xf_tree.proofs.MeansLemmas.{before-means}
 use Rattle.xf_tree.proofs.forest.Forest.before.Goals as goal
 

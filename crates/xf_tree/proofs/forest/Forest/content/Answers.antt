@@ -1,11 +1,11 @@
 use Rattle.std.proofs.Common.{map, false, ◌≡◌, option_map, sym, ap, ◌∙◌}
 use Rattle.slab.specs.Slab.{get}
-use Rattle.xf_doc.specs.Forest.{has_number, content_at}
-use Rattle.xf_doc.specs.Texts.{Keeping}
-use Rattle.xf_rows.specs.declared.rows.Row.{Row}
-use Rattle.xf_slots.specs.Slot.{Slot}
-use Rattle.xf_walks.specs.Nodes.{node_of}
-use Rattle.xf_walks.proofs.ReadLemmas.{absent-content}
+use Rattle.xf_def_forest.specs.Forest.{has_number, content_at}
+use Rattle.xf_def_forest.specs.Texts.{Keeping}
+use Rattle.xf_tree_rows.specs.declared.rows.Row.{Row}
+use Rattle.xf_tree_contents.specs.Slot.{Slot}
+use Rattle.xf_tree_walks.specs.Nodes.{node_of}
+use Rattle.xf_tree_walks.proofs.ReadLemmas.{absent-content}
 use Rattle.xf_tree.proofs.MeansLemmas.{slot-content}
 use Rattle.xf_tree.proofs.forest.Forest.content.Goals as goal
 

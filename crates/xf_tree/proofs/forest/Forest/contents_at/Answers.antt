@@ -1,17 +1,17 @@
 use Rattle.std.proofs.Common.{◌≡◌, ◌-◌, ◌==◌, ◌&&◌, not, true, false, ℕ, List, map, length, take, drop, get_or, sym, ap, ◌∙◌, subst, arith}
 use Rattle.std.specs.Prelude.{IfOk, Result, Ok, Err}
 use Rattle.std.specs.List.{list_any}
-use Rattle.xf_doc.specs.declared.content.Node.{Node}
-use Rattle.xf_doc.specs.declared.content.Content.{Content}
-use Rattle.xf_doc.specs.Changes.{contents_in}
-use Rattle.xf_doc.specs.Forest.{is_root, has_number, tree_of}
-use Rattle.xf_doc.specs.Texts.{Keeping}
-use Rattle.xf_rows.specs.declared.rows.Row.{Row}
-use Rattle.xf_rows.specs.Rows.{tree_of as row_tree, no_row}
-use Rattle.xf_rows.proofs.CutLemmas.{tree-is-front}
-use Rattle.xf_walks.specs.Nodes.{StandsAt, IsTree, node_of}
-use Rattle.xf_walks.proofs.PlaceLemmas.{stands}
-use Rattle.xf_changes.specs.Trees.{part_of}
+use Rattle.xf_def_forest.specs.declared.content.Node.{Node}
+use Rattle.xf_def_forest.specs.declared.content.Content.{Content}
+use Rattle.xf_def_forest.specs.Changes.{contents_in}
+use Rattle.xf_def_forest.specs.Forest.{is_root, has_number, tree_of}
+use Rattle.xf_def_forest.specs.Texts.{Keeping}
+use Rattle.xf_tree_rows.specs.declared.rows.Row.{Row}
+use Rattle.xf_tree_rows.specs.Rows.{tree_of as row_tree, no_row}
+use Rattle.xf_tree_rows.proofs.CutLemmas.{tree-is-front}
+use Rattle.xf_tree_walks.specs.Nodes.{StandsAt, IsTree, node_of}
+use Rattle.xf_tree_walks.proofs.PlaceLemmas.{stands}
+use Rattle.xf_tree_changes.specs.Trees.{part_of}
 use Rattle.xf_tree.proofs.MeansLemmas.{one_of}
 use Rattle.xf_tree.proofs.CopyLemmas.{contents-mean, contents-tree, copied-stands, nothing-copied}
 use Rattle.xf_tree.proofs.forest.Forest.contents_at.Goals.{After-contents_of}

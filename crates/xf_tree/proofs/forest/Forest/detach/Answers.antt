@@ -2,18 +2,18 @@ use Rattle.std.proofs.Common.{◌≡◌, ℕ, ◌<◌, List, length, map, get_or
 use Rattle.std.specs.Prelude.{is_some}
 use Rattle.std.proofs.lemmas.Bool.{false≢true}
 use Rattle.slab.specs.Slab.{get}
-use Rattle.xf_doc.specs.declared.content.Node.{Node}
-use Rattle.xf_doc.specs.Forest.{has_number}
-use Rattle.xf_doc.specs.Changes.{detached, standing}
-use Rattle.xf_doc.specs.Texts.{Keeping}
-use Rattle.xf_doc.specs.Visit.{visits, parent_of}
-use Rattle.xf_rows.specs.declared.rows.Row.{Row}
-use Rattle.xf_rows.specs.Rows.{parent_row_of, no_row}
-use Rattle.xf_slots.specs.Keys.{kept_of, number_in}
-use Rattle.xf_walks.specs.Nodes.{node_of, number_at, kin_before}
-use Rattle.xf_walks.proofs.StackLemmas.{absent-parent}
-use Rattle.xf_walks.proofs.ParentLemmas.{parent-means}
-use Rattle.xf_walks.proofs.AboveLemmas.{above-is, above-inside, child-depth}
+use Rattle.xf_def_forest.specs.declared.content.Node.{Node}
+use Rattle.xf_def_forest.specs.Forest.{has_number}
+use Rattle.xf_def_forest.specs.Changes.{detached, standing}
+use Rattle.xf_def_forest.specs.Texts.{Keeping}
+use Rattle.xf_def_forest.specs.Visit.{visits, parent_of}
+use Rattle.xf_tree_rows.specs.declared.rows.Row.{Row}
+use Rattle.xf_tree_rows.specs.Rows.{parent_row_of, no_row}
+use Rattle.xf_tree_contents.specs.Keys.{kept_of, number_in}
+use Rattle.xf_tree_walks.specs.Nodes.{node_of, number_at, kin_before}
+use Rattle.xf_tree_walks.proofs.StackLemmas.{absent-parent}
+use Rattle.xf_tree_walks.proofs.ParentLemmas.{parent-means}
+use Rattle.xf_tree_walks.proofs.AboveLemmas.{above-is, above-inside, child-depth}
 use Rattle.xf_tree.proofs.MeansLemmas.{one_of}
 use Rattle.xf_tree.proofs.AboveLemmas.{standing-means}
 use Rattle.xf_tree.proofs.ForestLemmas.{cut-means}

@@ -1,12 +1,12 @@
 use Rattle.std.proofs.Common.{◌≡◌, ◌-◌, ◌≤◌, ℕ, List, [], map, length, take, drop, sym, ap, ◌∙◌, subst, arith, length-take}
 use Rattle.std.proofs.lemmas.List.{take-append-drop, map-append, take_rest}
-use Rattle.xf_doc.specs.declared.content.Node.{Node}
-use Rattle.xf_doc.specs.Changes.{in_instances}
-use Rattle.xf_doc.specs.Limits.{node_count, all_size}
-use Rattle.xf_doc.specs.Texts.{Keeping, without_detached}
-use Rattle.xf_slots.specs.Keys.{kept_of}
-use Rattle.xf_walks.specs.Nodes.{node_of, times, KeepsBut}
-use Rattle.xf_walks.proofs.NodeLemmas.{times-append}
+use Rattle.xf_def_forest.specs.declared.content.Node.{Node}
+use Rattle.xf_def_forest.specs.Changes.{in_instances}
+use Rattle.xf_def_forest.specs.Limits.{node_count, all_size}
+use Rattle.xf_def_forest.specs.Texts.{Keeping, without_detached}
+use Rattle.xf_tree_contents.specs.Keys.{kept_of}
+use Rattle.xf_tree_walks.specs.Nodes.{node_of, times, KeepsBut}
+use Rattle.xf_tree_walks.proofs.NodeLemmas.{times-append}
 use Rattle.xf_tree.specs.State.{IsState}
 use Rattle.xf_tree.proofs.DropLemmas.{dropped-state, dropped-nodes, front-parted, front-shaped}
 use Rattle.xf_tree.proofs.forest.Forest.drop_detached.Goals.{After-truncate}

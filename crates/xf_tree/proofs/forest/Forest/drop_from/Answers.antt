@@ -1,14 +1,14 @@
 use Rattle.std.proofs.Common.{◌≡◌, ℕ, List, [], map, true, false, sym, ap, ◌∙◌, subst, arith, nat_lt}
 use Rattle.std.specs.Prelude.{filter}
 use Rattle.std.specs.List.{list_all}
-use Rattle.xf_doc.specs.declared.content.Node.{Node}
-use Rattle.xf_doc.specs.Needs.{goes_or_stays}
-use Rattle.xf_doc.specs.Texts.{Keeping, without_from}
-use Rattle.xf_doc.specs.Visit.{visits}
-use Rattle.xf_slots.specs.Keys.{kept_of}
-use Rattle.xf_walks.specs.Nodes.{node_of}
-use Rattle.xf_changes.specs.Older.{is_older, is_newer, AreWhole}
-use Rattle.xf_changes.proofs.OlderLemmas.{older-parted}
+use Rattle.xf_def_forest.specs.declared.content.Node.{Node}
+use Rattle.xf_def_forest.specs.Needs.{goes_or_stays}
+use Rattle.xf_def_forest.specs.Texts.{Keeping, without_from}
+use Rattle.xf_def_forest.specs.Visit.{visits}
+use Rattle.xf_tree_contents.specs.Keys.{kept_of}
+use Rattle.xf_tree_walks.specs.Nodes.{node_of}
+use Rattle.xf_tree_changes.specs.Older.{is_older, is_newer, AreWhole}
+use Rattle.xf_tree_changes.proofs.OlderLemmas.{older-parted}
 use Rattle.xf_tree.specs.State.{IsState}
 use Rattle.xf_tree.proofs.DropLemmas.{dropped-state, dropped-nodes}
 use Rattle.xf_tree.proofs.OlderLemmas.{older-shaped, length-older, times-older, nodes-older}

@@ -1,8 +1,8 @@
 use Rattle.std.proofs.Common.{◌≤◌, map, sym, ap, ◌∙◌, subst, arith}
 use Rattle.std.specs.Prelude.{filter}
-use Rattle.xf_doc.specs.Texts.{element_texts, given_up}
-use Rattle.xf_slots.specs.Keys.{kept_of, KeepsButKept}
-use Rattle.xf_changes.specs.Texts.{numbers_in, places_of, is_wanted}
+use Rattle.xf_def_forest.specs.Texts.{element_texts, given_up}
+use Rattle.xf_tree_contents.specs.Keys.{kept_of, KeepsButKept}
+use Rattle.xf_tree_changes.specs.Texts.{numbers_in, places_of, is_wanted}
 use Rattle.xf_tree.specs.State.{IsState, keeping_of}
 use Rattle.xf_tree.proofs.DropLemmas.{rest-of}
 use Rattle.xf_tree.proofs.BackLemmas.{given-state, given-view}

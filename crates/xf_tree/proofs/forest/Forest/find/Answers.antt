@@ -1,7 +1,7 @@
 use Rattle.std.proofs.Common.{◌≡◌, true, false, subst}
-use Rattle.xf_doc.specs.Forest.{has_number}
-use Rattle.xf_doc.specs.Texts.{Keeping}
-use Rattle.xf_walks.proofs.PlaceLemmas.{stands-live}
+use Rattle.xf_def_forest.specs.Forest.{has_number}
+use Rattle.xf_def_forest.specs.Texts.{Keeping}
+use Rattle.xf_tree_walks.proofs.PlaceLemmas.{stands-live}
 use Rattle.xf_tree.proofs.forest.Forest.find.Goals as goal
 
 pub returns-in-Some-clause-live : goal.returns-in-Some-clause-live

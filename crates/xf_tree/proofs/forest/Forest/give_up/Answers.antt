@@ -1,7 +1,7 @@
 use Rattle.std.proofs.Common.{sym, ap, ◌∙◌, Vec, Global}
-use Rattle.xf_doc.specs.declared.node.NodeId.{NodeId}
-use Rattle.xf_doc.specs.Texts.{Before, element_texts, given_up}
-use Rattle.xf_changes.specs.Texts.{numbers_in}
+use Rattle.xf_def_forest.specs.declared.node.NodeId.{NodeId}
+use Rattle.xf_def_forest.specs.Texts.{Before, element_texts, given_up}
+use Rattle.xf_tree_changes.specs.Texts.{numbers_in}
 use Rattle.xf_tree.specs.declared.before.Had.{Had}
 use Rattle.xf_tree.specs.Calls.{known_of}
 use Rattle.xf_tree.proofs.forest.Forest.give_up.Goals as goal

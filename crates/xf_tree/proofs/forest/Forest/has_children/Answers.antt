@@ -1,10 +1,10 @@
 use Rattle.std.proofs.Common.{◌≡◌, ℕ, List, [], map, length, nat_le, nat_eq, refl, sym, ap, ◌∙◌, arith}
 use Rattle.std.proofs.lemmas.Bool.Decides.{nat_tests}
-use Rattle.xf_doc.specs.Texts.{Keeping}
-use Rattle.xf_doc.specs.Visit.{visits, children_of}
-use Rattle.xf_walks.specs.Kids.{is_no_attribute}
-use Rattle.xf_walks.specs.Nodes.{node_of}
-use Rattle.xf_walks.proofs.KidLemmas.{kids-none}
+use Rattle.xf_def_forest.specs.Texts.{Keeping}
+use Rattle.xf_def_forest.specs.Visit.{visits, children_of}
+use Rattle.xf_tree_walks.specs.Kids.{is_no_attribute}
+use Rattle.xf_tree_walks.specs.Nodes.{node_of}
+use Rattle.xf_tree_walks.proofs.KidLemmas.{kids-none}
 use Rattle.xf_tree.proofs.ChildLemmas.{kids-mean}
 use Rattle.xf_tree.proofs.forest.Forest.has_children.Goals as goal
 

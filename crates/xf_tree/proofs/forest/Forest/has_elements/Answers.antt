@@ -1,10 +1,10 @@
 use Rattle.std.proofs.Common.{ℕ, List, [], map, length, nat_lt, refl, sym, ap, ◌∙◌}
-use Rattle.xf_doc.specs.Forest.{is_element}
-use Rattle.xf_doc.specs.Shape.{has_elements}
-use Rattle.xf_doc.specs.Texts.{Keeping}
-use Rattle.xf_doc.specs.Visit.{visits}
-use Rattle.xf_walks.specs.Nodes.{node_of}
-use Rattle.xf_walks.proofs.KidLemmas.{kids-none}
+use Rattle.xf_def_forest.specs.Forest.{is_element}
+use Rattle.xf_def_forest.specs.Shape.{has_elements}
+use Rattle.xf_def_forest.specs.Texts.{Keeping}
+use Rattle.xf_def_forest.specs.Visit.{visits}
+use Rattle.xf_tree_walks.specs.Nodes.{node_of}
+use Rattle.xf_tree_walks.proofs.KidLemmas.{kids-none}
 use Rattle.xf_tree.proofs.ChildLemmas.{kids-mean, elements-are}
 use Rattle.xf_tree.proofs.forest.Forest.has_elements.Goals as goal
 

@@ -1,11 +1,11 @@
 use Rattle.std.proofs.Common.{◌≡◌, ℕ, map, Option, Some, None, refl, sym, ap, ◌∙◌}
 use Rattle.std.specs.Prelude.{is_some}
-use Rattle.xf_doc.specs.Texts.{Keeping}
-use Rattle.xf_doc.specs.Visit.{visits, parent_of}
-use Rattle.xf_rows.specs.Rows.{parent_row_of}
-use Rattle.xf_walks.specs.Nodes.{node_of, number_at}
-use Rattle.xf_walks.proofs.StackLemmas.{absent-parent}
-use Rattle.xf_walks.proofs.ParentLemmas.{parent-means}
+use Rattle.xf_def_forest.specs.Texts.{Keeping}
+use Rattle.xf_def_forest.specs.Visit.{visits, parent_of}
+use Rattle.xf_tree_rows.specs.Rows.{parent_row_of}
+use Rattle.xf_tree_walks.specs.Nodes.{node_of, number_at}
+use Rattle.xf_tree_walks.proofs.StackLemmas.{absent-parent}
+use Rattle.xf_tree_walks.proofs.ParentLemmas.{parent-means}
 use Rattle.xf_tree.proofs.MeansLemmas.{one_of}
 use Rattle.xf_tree.proofs.forest.Forest.has_parent.Goals as goal
 

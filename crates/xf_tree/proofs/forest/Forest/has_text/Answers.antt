@@ -1,15 +1,15 @@
 use Rattle.std.proofs.Common.{◌≡◌, ◌+◌, ◌-◌, map, length, take, drop, get_or, sym, ap, ◌∙◌, arith}
 use Rattle.std.specs.Str.{bytes_eq}
 use Rattle.slab.specs.Slab.{get}
-use Rattle.xf_doc.specs.Forest.{is_attribute, own_text}
-use Rattle.xf_doc.specs.Shape.{as_texts}
-use Rattle.xf_doc.specs.Texts.{Keeping, texts_in}
-use Rattle.xf_doc.specs.Settle.{are_texts, has_text}
-use Rattle.xf_rows.specs.declared.rows.Row.{Row}
-use Rattle.xf_rows.specs.Rows.{tree_of, no_row}
-use Rattle.xf_slots.specs.Keys.{content_in}
-use Rattle.xf_walks.specs.Nodes.{StandsAt, node_of}
-use Rattle.xf_walks.proofs.StandLemmas.{none-texts}
+use Rattle.xf_def_forest.specs.Forest.{is_attribute, own_text}
+use Rattle.xf_def_forest.specs.Shape.{as_texts}
+use Rattle.xf_def_forest.specs.Texts.{Keeping, texts_in}
+use Rattle.xf_def_forest.specs.Settle.{are_texts, has_text}
+use Rattle.xf_tree_rows.specs.declared.rows.Row.{Row}
+use Rattle.xf_tree_rows.specs.Rows.{tree_of, no_row}
+use Rattle.xf_tree_contents.specs.Keys.{content_in}
+use Rattle.xf_tree_walks.specs.Nodes.{StandsAt, node_of}
+use Rattle.xf_tree_walks.proofs.StandLemmas.{none-texts}
 use Rattle.xf_tree.proofs.StandLemmas.{stands-absent, stands-value, stands-texts}
 use Rattle.xf_tree.proofs.forest.Forest.has_text.Goals.{After-is_attribute_at as Seen}
 use Rattle.xf_tree.proofs.forest.Forest.has_text.Goals as goal

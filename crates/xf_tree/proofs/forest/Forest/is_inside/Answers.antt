@@ -1,8 +1,8 @@
 use Rattle.std.proofs.Common.{◌≡◌, ℕ, ◌+◌, ◌≤◌, ◌<◌, ◌&&◌, Bool, true, false, length, drop, nat_le, nat_lt, refl, sym, ap, ◌∙◌, arith}
 use Rattle.std.proofs.lemmas.Bool.Decides.{nat_tests}
-use Rattle.xf_doc.specs.Forest.{has_number, tree_of as tree_of_node}
-use Rattle.xf_doc.specs.Texts.{Keeping}
-use Rattle.xf_rows.specs.Rows.{tree_of}
+use Rattle.xf_def_forest.specs.Forest.{has_number, tree_of as tree_of_node}
+use Rattle.xf_def_forest.specs.Texts.{Keeping}
+use Rattle.xf_tree_rows.specs.Rows.{tree_of}
 use Rattle.xf_tree.proofs.NamedLemmas.{inside-none, inside-means, inside-other}
 use Rattle.xf_tree.proofs.forest.Forest.is_inside.Goals as goal
 

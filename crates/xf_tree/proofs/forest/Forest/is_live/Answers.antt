@@ -1,8 +1,8 @@
 use Rattle.std.proofs.Common.{◌≡◌, true, false, sym, ◌∙◌, subst, refl}
 use Rattle.std.proofs.lemmas.Bool.{false≢true}
-use Rattle.xf_doc.specs.Forest.{has_number}
-use Rattle.xf_doc.specs.Texts.{Keeping}
-use Rattle.xf_walks.proofs.PlaceLemmas.{stands-live}
+use Rattle.xf_def_forest.specs.Forest.{has_number}
+use Rattle.xf_def_forest.specs.Texts.{Keeping}
+use Rattle.xf_tree_walks.proofs.PlaceLemmas.{stands-live}
 use Rattle.xf_tree.proofs.forest.Forest.is_live.Goals as goal
 
 pub returns-in-Some : goal.returns-in-Some

@@ -2,13 +2,13 @@ use Rattle.std.proofs.Common.{◌≡◌, map, Some, None, option_map, sym, ap, �
 use Rattle.std.proofs.lemmas.Bool.{false≢true}
 use denote.Enum.Bare.{same_true, true_same}
 use Rattle.slab.specs.Slab.{get}
-use Rattle.xf_doc.specs.declared.content.Kind.{Kind}
-use Rattle.xf_doc.specs.contracts.content.Kind.{the_type}
-use Rattle.xf_doc.specs.Forest.{kind_of, kind_at}
-use Rattle.xf_doc.specs.Texts.{Keeping}
-use Rattle.xf_rows.specs.declared.rows.Row.{Row}
-use Rattle.xf_slots.specs.Keys.{content_in}
-use Rattle.xf_walks.specs.Nodes.{node_of}
+use Rattle.xf_def_forest.specs.declared.content.Kind.{Kind}
+use Rattle.xf_def_forest.specs.contracts.content.Kind.{the_type}
+use Rattle.xf_def_forest.specs.Forest.{kind_of, kind_at}
+use Rattle.xf_def_forest.specs.Texts.{Keeping}
+use Rattle.xf_tree_rows.specs.declared.rows.Row.{Row}
+use Rattle.xf_tree_contents.specs.Keys.{content_in}
+use Rattle.xf_tree_walks.specs.Nodes.{node_of}
 use Rattle.xf_tree.proofs.NamedLemmas.{kind-none}
 use Rattle.xf_tree.proofs.MeansLemmas.{content-means}
 use Rattle.xf_tree.proofs.forest.Forest.is_of_kind.Goals as goal

@@ -1,12 +1,12 @@
 use Rattle.std.proofs.Common.{◌≡◌, ◌-◌, length, map, take, drop, sym, ap, ◌∙◌, arith}
-use Rattle.xf_doc.specs.Forest.{tree_of}
-use Rattle.xf_doc.specs.Changes.{elements_above}
-use Rattle.xf_doc.specs.Limits.{is_too_deep}
-use Rattle.xf_doc.specs.Visit.{visits}
-use Rattle.xf_doc.specs.Texts.{Keeping}
-use Rattle.xf_rows.specs.Rows.{tree_of as row_tree}
-use Rattle.xf_rows.proofs.CutLemmas.{tree-is-front}
-use Rattle.xf_walks.specs.Nodes.{node_of}
+use Rattle.xf_def_forest.specs.Forest.{tree_of}
+use Rattle.xf_def_forest.specs.Changes.{elements_above}
+use Rattle.xf_def_forest.specs.Limits.{is_too_deep}
+use Rattle.xf_def_forest.specs.Visit.{visits}
+use Rattle.xf_def_forest.specs.Texts.{Keeping}
+use Rattle.xf_tree_rows.specs.Rows.{tree_of as row_tree}
+use Rattle.xf_tree_rows.proofs.CutLemmas.{tree-is-front}
+use Rattle.xf_tree_walks.specs.Nodes.{node_of}
 use Rattle.xf_tree.proofs.MeansLemmas.{one_of}
 use Rattle.xf_tree.proofs.AttachLemmas.{tree-nodes}
 use Rattle.xf_tree.proofs.ElementLemmas.{elements-mean}

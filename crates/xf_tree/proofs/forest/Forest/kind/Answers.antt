@@ -1,9 +1,9 @@
 use Rattle.std.proofs.Common.{Some, option_map, sym, ap, ◌∙◌}
 use Rattle.slab.specs.Slab.{get}
-use Rattle.xf_doc.specs.Forest.{kind_of, kind_at}
-use Rattle.xf_doc.specs.Texts.{Keeping}
-use Rattle.xf_rows.specs.declared.rows.Row.{Row}
-use Rattle.xf_slots.specs.Keys.{content_in}
+use Rattle.xf_def_forest.specs.Forest.{kind_of, kind_at}
+use Rattle.xf_def_forest.specs.Texts.{Keeping}
+use Rattle.xf_tree_rows.specs.declared.rows.Row.{Row}
+use Rattle.xf_tree_contents.specs.Keys.{content_in}
 use Rattle.xf_tree.proofs.MeansLemmas.{content-means}
 use Rattle.xf_tree.proofs.forest.Forest.kind.Goals as goal
 

@@ -1,14 +1,14 @@
 use Rattle.std.proofs.Common.{◌≡◌, not, false, map, nat_lt, option_map, get_or, sym, ap, ◌∙◌}
 use Rattle.slab.specs.Slab.{get}
-use Rattle.xf_doc.specs.declared.content.Node.{Node}
-use Rattle.xf_doc.specs.Forest.{Forest, has_number}
-use Rattle.xf_doc.specs.Needs.{lacks_name}
-use Rattle.xf_doc.specs.Texts.{Keeping}
-use Rattle.xf_rows.specs.declared.rows.Row.{Row}
-use Rattle.xf_rows.specs.Rows.{no_row}
-use Rattle.xf_slots.specs.Keys.{content_in}
-use Rattle.xf_walks.specs.Kids.{is_attribute_like, kids_at}
-use Rattle.xf_walks.specs.Nodes.{node_of}
+use Rattle.xf_def_forest.specs.declared.content.Node.{Node}
+use Rattle.xf_def_forest.specs.Forest.{Forest, has_number}
+use Rattle.xf_def_forest.specs.Needs.{lacks_name}
+use Rattle.xf_def_forest.specs.Texts.{Keeping}
+use Rattle.xf_tree_rows.specs.declared.rows.Row.{Row}
+use Rattle.xf_tree_rows.specs.Rows.{no_row}
+use Rattle.xf_tree_contents.specs.Keys.{content_in}
+use Rattle.xf_tree_walks.specs.Kids.{is_attribute_like, kids_at}
+use Rattle.xf_tree_walks.specs.Nodes.{node_of}
 use Rattle.xf_tree.proofs.ChildLemmas.{kids-mean, lacks-are, lacks-nameless, lacks-nobody}
 use Rattle.xf_tree.proofs.NamedLemmas.{node-none}
 use Rattle.xf_tree.proofs.MeansLemmas.{content-means}

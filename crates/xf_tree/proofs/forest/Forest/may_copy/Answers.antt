@@ -2,11 +2,11 @@ use Rattle.std.proofs.Common.{◌≡◌, ◌&&◌, ◌==◌, not, false, Bool, s
 use Rattle.std.specs.List.{list_any}
 use Rattle.std.proofs.lemmas.Bool.{false≢true}
 use Rattle.slab.specs.Slab.{get}
-use Rattle.xf_doc.specs.declared.content.Node.{Node}
-use Rattle.xf_doc.specs.Forest.{is_root}
-use Rattle.xf_doc.specs.Texts.{Keeping}
-use Rattle.xf_rows.specs.declared.rows.Row.{Row}
-use Rattle.xf_slots.specs.Keys.{content_in}
+use Rattle.xf_def_forest.specs.declared.content.Node.{Node}
+use Rattle.xf_def_forest.specs.Forest.{is_root}
+use Rattle.xf_def_forest.specs.Texts.{Keeping}
+use Rattle.xf_tree_rows.specs.declared.rows.Row.{Row}
+use Rattle.xf_tree_contents.specs.Keys.{content_in}
 use Rattle.xf_tree.proofs.NamedLemmas.{named-at, named-none}
 use Rattle.xf_tree.proofs.forest.Forest.may_copy.Goals as goal
 

@@ -1,11 +1,11 @@
 use Rattle.std.proofs.Common.{option_map, sym, ap, ◌∙◌}
 use Rattle.std.specs.Prelude.{option_and_then}
 use Rattle.slab.specs.Slab.{get}
-use Rattle.xf_doc.specs.declared.content.Name.{Name}
-use Rattle.xf_doc.specs.Forest.{name_in, name_at}
-use Rattle.xf_doc.specs.Texts.{Keeping}
-use Rattle.xf_rows.specs.declared.rows.Row.{Row}
-use Rattle.xf_slots.specs.Keys.{content_in}
+use Rattle.xf_def_forest.specs.declared.content.Name.{Name}
+use Rattle.xf_def_forest.specs.Forest.{name_in, name_at}
+use Rattle.xf_def_forest.specs.Texts.{Keeping}
+use Rattle.xf_tree_rows.specs.declared.rows.Row.{Row}
+use Rattle.xf_tree_contents.specs.Keys.{content_in}
 use Rattle.xf_tree.proofs.MeansLemmas.{content-means}
 use Rattle.xf_tree.proofs.forest.Forest.name.Goals as goal
 

@@ -1,13 +1,13 @@
 use Rattle.std.proofs.Common.{◌≡◌, ◌<◌, length, Some, None, option_map, sym, ap, ◌∙◌, arith}
 use Rattle.slab.specs.Slab.{get}
-use Rattle.xf_doc.specs.declared.node.NodeId.{NodeId}
-use Rattle.xf_doc.specs.Texts.{Keeping}
-use Rattle.xf_doc.specs.Visit.{visits, parent_of}
-use Rattle.xf_rows.specs.declared.rows.Row.{Row}
-use Rattle.xf_rows.specs.Rows.{parent_row_of}
-use Rattle.xf_slots.specs.Keys.{number_in}
-use Rattle.xf_walks.specs.Nodes.{number_at}
-use Rattle.xf_walks.proofs.ParentLemmas.{parent-means}
+use Rattle.xf_def_forest.specs.declared.node.NodeId.{NodeId}
+use Rattle.xf_def_forest.specs.Texts.{Keeping}
+use Rattle.xf_def_forest.specs.Visit.{visits, parent_of}
+use Rattle.xf_tree_rows.specs.declared.rows.Row.{Row}
+use Rattle.xf_tree_rows.specs.Rows.{parent_row_of}
+use Rattle.xf_tree_contents.specs.Keys.{number_in}
+use Rattle.xf_tree_walks.specs.Nodes.{number_at}
+use Rattle.xf_tree_walks.proofs.ParentLemmas.{parent-means}
 use Rattle.xf_tree.proofs.MeansLemmas.{one_of}
 use Rattle.xf_tree.proofs.forest.Forest.parent.Goals as goal
 

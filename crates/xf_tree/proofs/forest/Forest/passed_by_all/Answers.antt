@@ -1,8 +1,8 @@
 use Rattle.std.proofs.Common.{◌<◌, ◌≤◌, ◌++◌, map, ap, ◌∙◌, arith}
-use Rattle.xf_doc.specs.Limits.{limits, node_count, all_size, passed_by_all}
-use Rattle.xf_doc.specs.Plant.{numbered_from}
-use Rattle.xf_doc.specs.Texts.{Keeping}
-use Rattle.xf_walks.specs.Nodes.{node_of}
+use Rattle.xf_def_forest.specs.Limits.{limits, node_count, all_size, passed_by_all}
+use Rattle.xf_def_forest.specs.Plant.{numbered_from}
+use Rattle.xf_def_forest.specs.Texts.{Keeping}
+use Rattle.xf_tree_walks.specs.Nodes.{node_of}
 use Rattle.xf_tree.proofs.AddLemmas.{count-with, size-with, passed-nodes, passed-bytes, passed-none}
 use Rattle.xf_tree.proofs.forest.Forest.passed_by_all.Goals as goal
 

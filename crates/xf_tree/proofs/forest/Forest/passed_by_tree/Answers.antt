@@ -1,9 +1,9 @@
 use Rattle.std.proofs.Common.{◌<◌, ◌≤◌, ◌++◌, map, sym, ap, ◌∙◌, arith}
-use Rattle.xf_doc.specs.Limits.{limits, node_count, all_size, passed_by_tree}
-use Rattle.xf_doc.specs.Plant.{numbered_from}
-use Rattle.xf_doc.specs.Texts.{Keeping}
-use Rattle.xf_walks.specs.Nodes.{node_of}
-use Rattle.xf_literal.proofs.FaultLemmas.{long-numbered, deep-numbered, tree-nodes, tree-long, tree-bytes, tree-deep, tree-none}
+use Rattle.xf_def_forest.specs.Limits.{limits, node_count, all_size, passed_by_tree}
+use Rattle.xf_def_forest.specs.Plant.{numbered_from}
+use Rattle.xf_def_forest.specs.Texts.{Keeping}
+use Rattle.xf_tree_walks.specs.Nodes.{node_of}
+use Rattle.xf_tree_literals.proofs.FaultLemmas.{long-numbered, deep-numbered, tree-nodes, tree-long, tree-bytes, tree-deep, tree-none}
 use Rattle.xf_tree.proofs.AddLemmas.{count-with, size-with}
 use Rattle.xf_tree.proofs.forest.Forest.passed_by_tree.Goals as goal
 

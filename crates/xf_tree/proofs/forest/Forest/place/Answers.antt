@@ -1,22 +1,22 @@
 use Rattle.std.proofs.Common.{◌≡◌, ◌==◌, List, Some, map, get_or, false, true, option_map, inl, inr, sym, ap, ◌∙◌, subst}
 use Rattle.slab.specs.Slab.{get}
-use Rattle.xf_doc.specs.declared.content.Node.{Node}
-use Rattle.xf_doc.specs.Forest.{has_number, kind_of, kind_at, tree_of, is_root, is_element, is_attribute}
-use Rattle.xf_doc.specs.Changes.{placed}
-use Rattle.xf_doc.specs.Needs.{is_top, goes_below}
-use Rattle.xf_doc.specs.Texts.{Keeping}
-use Rattle.xf_rows.specs.Rows.{no_row}
-use Rattle.xf_slots.specs.Keys.{kept_of, content_in}
-use Rattle.xf_walks.specs.Leaves.{is_leaf}
-use Rattle.xf_walks.specs.Nodes.{StandsAt, node_of}
-use Rattle.xf_walks.proofs.PlaceLemmas.{stands}
+use Rattle.xf_def_forest.specs.declared.content.Node.{Node}
+use Rattle.xf_def_forest.specs.Forest.{has_number, kind_of, kind_at, tree_of, is_root, is_element, is_attribute}
+use Rattle.xf_def_forest.specs.Changes.{placed}
+use Rattle.xf_def_forest.specs.Needs.{is_top, goes_below}
+use Rattle.xf_def_forest.specs.Texts.{Keeping}
+use Rattle.xf_tree_rows.specs.Rows.{no_row}
+use Rattle.xf_tree_contents.specs.Keys.{kept_of, content_in}
+use Rattle.xf_tree_walks.specs.Leaves.{is_leaf}
+use Rattle.xf_tree_walks.specs.Nodes.{StandsAt, node_of}
+use Rattle.xf_tree_walks.proofs.PlaceLemmas.{stands}
 use Rattle.xf_tree.proofs.MeansLemmas.{one_of, content-means}
 use Rattle.xf_tree.proofs.AddLemmas.{named-meets, zero-depth, element-is}
 use Rattle.xf_tree.proofs.NeedLemmas.{none-named, none-kind, node-kind, parent-kind, attribute-parent, attribute-kind, no-root_content, no-leaf_content}
 use Rattle.xf_tree.proofs.AttachLemmas.{stands-outside, placed-means}
 use Rattle.xf_tree.proofs.AttachedLemmas.{placed-state}
 use Rattle.xf_tree.proofs.forest.Forest.place.Goals.{In-Some}
-use Rattle.xf_doc.specs.declared.content.Kind.TheVariants as kind
+use Rattle.xf_def_forest.specs.declared.content.Kind.TheVariants as kind
 use Rattle.xf_tree.proofs.forest.Forest.place.Goals as goal
 
 pub returns-in_default : goal.returns-in_default

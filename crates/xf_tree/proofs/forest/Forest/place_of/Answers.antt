@@ -1,15 +1,15 @@
 use Rattle.std.proofs.Common.{◌≡◌, true, false, if◌then◌else◌, map, get_or, sym, ap, ◌∙◌}
 use Rattle.std.specs.Prelude.{count_by}
 use Rattle.slab.specs.Slab.{get}
-use Rattle.xf_doc.specs.Changes.{place_of, is_lesser}
-use Rattle.xf_doc.specs.Forest.{is_attribute, content_at}
-use Rattle.xf_doc.specs.Texts.{Keeping}
-use Rattle.xf_doc.specs.Visit.{visits}
-use Rattle.xf_rows.specs.declared.rows.Row.{Row}
-use Rattle.xf_rows.specs.Rows.{no_row}
-use Rattle.xf_slots.specs.Keys.{content_in}
-use Rattle.xf_walks.specs.Kids.{is_lesser_attribute, kids_at}
-use Rattle.xf_walks.specs.Nodes.{node_of}
+use Rattle.xf_def_forest.specs.Changes.{place_of, is_lesser}
+use Rattle.xf_def_forest.specs.Forest.{is_attribute, content_at}
+use Rattle.xf_def_forest.specs.Texts.{Keeping}
+use Rattle.xf_def_forest.specs.Visit.{visits}
+use Rattle.xf_tree_rows.specs.declared.rows.Row.{Row}
+use Rattle.xf_tree_rows.specs.Rows.{no_row}
+use Rattle.xf_tree_contents.specs.Keys.{content_in}
+use Rattle.xf_tree_walks.specs.Kids.{is_lesser_attribute, kids_at}
+use Rattle.xf_tree_walks.specs.Nodes.{node_of}
 use Rattle.xf_tree.proofs.ChildLemmas.{kids-mean, lesser-are}
 use Rattle.xf_tree.proofs.MeansLemmas.{content-means}
 use Rattle.xf_tree.proofs.forest.Forest.place_of.Goals as goal

@@ -1,14 +1,14 @@
 use Rattle.std.proofs.Common.{◌≡◌, ◌-◌, ◌≤◌, List, length, map, take, drop, Some, false, sym, ap, ◌∙◌, subst, arith}
 use Rattle.std.specs.Prelude.{filter}
 use Rattle.std.proofs.lemmas.Bool.{true≢false}
-use Rattle.xf_doc.specs.declared.node.NodeId.{NodeId}
-use Rattle.xf_doc.specs.declared.content.Kind.TheVariants.{Element}
-use Rattle.xf_doc.specs.Forest.{kind_at, has_number}
-use Rattle.xf_doc.specs.Visit.{visits}
-use Rattle.xf_doc.specs.Shape.{has_elements}
-use Rattle.xf_doc.specs.Texts.{Keeping, element_texts, put_back}
-use Rattle.xf_walks.specs.Nodes.{StandsAt, node_of}
-use Rattle.xf_changes.specs.Texts.{numbers_in, places_of, is_wanted}
+use Rattle.xf_def_forest.specs.declared.node.NodeId.{NodeId}
+use Rattle.xf_def_forest.specs.declared.content.Kind.TheVariants.{Element}
+use Rattle.xf_def_forest.specs.Forest.{kind_at, has_number}
+use Rattle.xf_def_forest.specs.Visit.{visits}
+use Rattle.xf_def_forest.specs.Shape.{has_elements}
+use Rattle.xf_def_forest.specs.Texts.{Keeping, element_texts, put_back}
+use Rattle.xf_tree_walks.specs.Nodes.{StandsAt, node_of}
+use Rattle.xf_tree_changes.specs.Texts.{numbers_in, places_of, is_wanted}
 use Rattle.xf_tree.specs.State.{IsState, keeping_of}
 use Rattle.xf_tree.proofs.DropLemmas.{rest-of}
 use Rattle.xf_tree.proofs.MeansLemmas.{one_of}

@@ -2,15 +2,15 @@ use Rattle.std.proofs.Common.{◌≡◌, ◌+◌, ◌-◌, ◌≤◌, ◌^◌, m
 use Rattle.std.specs.Prelude.{option_map}
 use Rattle.std.proofs.lemmas.Bool.{true≢false}
 use Rattle.slab.specs.Slab.{get, Updates}
-use Rattle.xf_doc.specs.declared.content.Kind.TheVariants.{Attribute}
-use Rattle.xf_doc.specs.Forest.{kind_at, has_number}
-use Rattle.xf_doc.specs.Limits.{size_of}
-use Rattle.xf_doc.specs.Texts.{Keeping, attribute_text, put_back}
-use Rattle.xf_rows.specs.declared.rows.Row.{Row}
-use Rattle.xf_rows.specs.Rows.{no_row}
-use Rattle.xf_slots.specs.Keys.{content_in}
-use Rattle.xf_slots.specs.Slots.{valued_slot}
-use Rattle.xf_walks.specs.Nodes.{StandsAt, node_of}
+use Rattle.xf_def_forest.specs.declared.content.Kind.TheVariants.{Attribute}
+use Rattle.xf_def_forest.specs.Forest.{kind_at, has_number}
+use Rattle.xf_def_forest.specs.Limits.{size_of}
+use Rattle.xf_def_forest.specs.Texts.{Keeping, attribute_text, put_back}
+use Rattle.xf_tree_rows.specs.declared.rows.Row.{Row}
+use Rattle.xf_tree_rows.specs.Rows.{no_row}
+use Rattle.xf_tree_contents.specs.Keys.{content_in}
+use Rattle.xf_tree_contents.specs.Slots.{valued_slot}
+use Rattle.xf_tree_walks.specs.Nodes.{StandsAt, node_of}
 use Rattle.xf_tree.proofs.AddLemmas.{bytes-most}
 use Rattle.xf_tree.proofs.ValueLemmas.{kind-live, value-state, value-view}
 use Rattle.xf_tree.proofs.forest.Forest.put_value.Goals.{After-change_value}

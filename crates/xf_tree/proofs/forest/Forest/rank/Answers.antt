@@ -1,6 +1,6 @@
 use Rattle.std.proofs.Common.{sym, ap, ◌∙◌}
-use Rattle.xf_doc.specs.Order.{rank_of}
-use Rattle.xf_doc.specs.Texts.{Keeping}
+use Rattle.xf_def_forest.specs.Order.{rank_of}
+use Rattle.xf_def_forest.specs.Texts.{Keeping}
 use Rattle.xf_tree.proofs.MeansLemmas.{rank-means}
 use Rattle.xf_tree.proofs.forest.Forest.rank.Goals as goal
 

@@ -1,12 +1,12 @@
 use Rattle.std.proofs.Common.{◌≡◌, ℕ, ◌+◌, ◌-◌, ◌≤◌, length, map, false, Some, Ok, inr, sym, ap, ◌∙◌, subst, arith}
-use Rattle.xf_doc.specs.declared.content.Kind.TheVariants.{Element}
-use Rattle.xf_doc.specs.Forest.{kind_at}
-use Rattle.xf_doc.specs.Visit.{visits}
-use Rattle.xf_doc.specs.Shape.{has_elements}
-use Rattle.xf_doc.specs.Limits.{limits, unless, all_size}
-use Rattle.xf_doc.specs.Texts.{Before, Keeping, text_set}
-use Rattle.xf_walks.specs.Nodes.{StandsAt, node_of}
-use Rattle.xf_changes.specs.Texts.{passed_by, text_count, children, run_of}
+use Rattle.xf_def_forest.specs.declared.content.Kind.TheVariants.{Element}
+use Rattle.xf_def_forest.specs.Forest.{kind_at}
+use Rattle.xf_def_forest.specs.Visit.{visits}
+use Rattle.xf_def_forest.specs.Shape.{has_elements}
+use Rattle.xf_def_forest.specs.Limits.{limits, unless, all_size}
+use Rattle.xf_def_forest.specs.Texts.{Before, Keeping, text_set}
+use Rattle.xf_tree_walks.specs.Nodes.{StandsAt, node_of}
+use Rattle.xf_tree_changes.specs.Texts.{passed_by, text_count, children, run_of}
 use Rattle.xf_tree.specs.State.{keeping_of}
 use Rattle.xf_tree.specs.Settled.{text_written}
 use Rattle.xf_tree.proofs.AddLemmas.{moved-state}

@@ -1,7 +1,7 @@
 use Rattle.std.proofs.Common.{◌≡◌, Some, true, inl, inr}
 use Rattle.std.specs.Prelude.{◌⊎◌}
-use Rattle.xf_doc.specs.declared.content.Kind.TheVariants.{Attribute, Element}
-use Rattle.xf_doc.specs.Forest.{kind_at, has_number}
+use Rattle.xf_def_forest.specs.declared.content.Kind.TheVariants.{Attribute, Element}
+use Rattle.xf_def_forest.specs.Forest.{kind_at, has_number}
 use Rattle.xf_tree.proofs.ValueLemmas.{kind-live}
 use Rattle.xf_tree.proofs.forest.Forest.set_text.Goals as goal
 

@@ -1,17 +1,17 @@
 use Rattle.std.proofs.Common.{◌≡◌, ℕ, ◌+◌, ◌-◌, ◌≤◌, ◌^◌, length, map, get_or, List, true, Some, Result, Ok, inr, sym, ap, ◌∙◌, subst, arith}
 use Rattle.std.specs.Prelude.{option_map}
 use Rattle.slab.specs.Slab.{get, Updates}
-use Rattle.xf_doc.specs.declared.content.Kind.TheVariants.{Attribute}
-use Rattle.xf_doc.specs.declared.fault.TreeFault.{TreeFault}
-use Rattle.xf_doc.specs.Forest.{own_text, is_attribute, kind_at}
-use Rattle.xf_doc.specs.Limits.{limits, unless, size_of}
-use Rattle.xf_doc.specs.Texts.{text_set, Before, Keeping, attribute_text, with_attribute_text}
-use Rattle.xf_rows.specs.declared.rows.Row.{Row}
-use Rattle.xf_rows.specs.Rows.{no_row}
-use Rattle.xf_slots.specs.Keys.{content_in, kept_of}
-use Rattle.xf_slots.specs.Slots.{valued_slot}
-use Rattle.xf_walks.specs.Nodes.{StandsAt, node_of}
-use Rattle.xf_changes.specs.Texts.{passed_by}
+use Rattle.xf_def_forest.specs.declared.content.Kind.TheVariants.{Attribute}
+use Rattle.xf_def_forest.specs.declared.fault.TreeFault.{TreeFault}
+use Rattle.xf_def_forest.specs.Forest.{own_text, is_attribute, kind_at}
+use Rattle.xf_def_forest.specs.Limits.{limits, unless, size_of}
+use Rattle.xf_def_forest.specs.Texts.{text_set, Before, Keeping, attribute_text, with_attribute_text}
+use Rattle.xf_tree_rows.specs.declared.rows.Row.{Row}
+use Rattle.xf_tree_rows.specs.Rows.{no_row}
+use Rattle.xf_tree_contents.specs.Keys.{content_in, kept_of}
+use Rattle.xf_tree_contents.specs.Slots.{valued_slot}
+use Rattle.xf_tree_walks.specs.Nodes.{StandsAt, node_of}
+use Rattle.xf_tree_changes.specs.Texts.{passed_by}
 use Rattle.xf_tree.proofs.AddLemmas.{bytes-most}
 use Rattle.xf_tree.proofs.ValueLemmas.{value-state, value-set, is-attribute, value-view}
 use Rattle.xf_tree.proofs.forest.Forest.set_value.Goals.{In-Some-passed, After-passed as Passed, After-change_value-before}

@@ -1,10 +1,10 @@
 use Rattle.std.proofs.Common.{◌≡◌, Option, Some, true, inl, inr, ap, ◌∙◌, arith}
 use Rattle.std.specs.Prelude.{◌⊎◌}
-use Rattle.xf_doc.specs.declared.content.Kind.{Kind}
-use Rattle.xf_doc.specs.declared.content.Kind.TheVariants.{Attribute, Element}
-use Rattle.xf_doc.specs.Forest.{kind_at, has_number}
-use Rattle.xf_doc.specs.Texts.{Keeping}
-use Rattle.xf_walks.proofs.NodeLemmas.{times-absent}
+use Rattle.xf_def_forest.specs.declared.content.Kind.{Kind}
+use Rattle.xf_def_forest.specs.declared.content.Kind.TheVariants.{Attribute, Element}
+use Rattle.xf_def_forest.specs.Forest.{kind_at, has_number}
+use Rattle.xf_def_forest.specs.Texts.{Keeping}
+use Rattle.xf_tree_walks.proofs.NodeLemmas.{times-absent}
 use Rattle.xf_tree.proofs.SetLemmas.{count-most, kept-absent}
 use Rattle.xf_tree.proofs.ValueLemmas.{kind-live}
 use Rattle.xf_tree.proofs.forest.Forest.settle_text.Goals as goal

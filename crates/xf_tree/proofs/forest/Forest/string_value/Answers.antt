@@ -1,8 +1,8 @@
 use Rattle.std.proofs.Common.{◌≡◌, ℕ, List, Option, sym, ap, ◌∙◌, subst}
 use Rattle.std.specs.Prelude.{IfOk}
-use Rattle.xf_doc.specs.StringValue.{string_value_within}
-use Rattle.xf_doc.specs.Texts.{Keeping}
-use Rattle.xf_doc.specs.Visit.{visits}
+use Rattle.xf_def_forest.specs.StringValue.{string_value_within}
+use Rattle.xf_def_forest.specs.Texts.{Keeping}
+use Rattle.xf_def_forest.specs.Visit.{visits}
 use Rattle.xf_tree.proofs.MeansLemmas.{within-means}
 use Rattle.xf_tree.proofs.forest.Forest.string_value.Goals as goal
 

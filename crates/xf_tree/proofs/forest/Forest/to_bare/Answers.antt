@@ -1,9 +1,9 @@
 use Rattle.std.proofs.Common.{◌≡◌, Some, List, map, sym, ap, ◌∙◌, subst}
 use Rattle.std.specs.Prelude.{IfOk}
-use Rattle.xf_doc.specs.declared.content.Node.{Node}
-use Rattle.xf_doc.specs.Literal.{bare_part, gathered, first_tree_in}
-use Rattle.xf_walks.specs.Nodes.{node_of}
-use Rattle.xf_literal.specs.Print.{IsPrintable}
+use Rattle.xf_def_forest.specs.declared.content.Node.{Node}
+use Rattle.xf_def_forest.specs.Literal.{bare_part, gathered, first_tree_in}
+use Rattle.xf_tree_walks.specs.Nodes.{node_of}
+use Rattle.xf_tree_literals.specs.Print.{IsPrintable}
 use Rattle.xf_tree.proofs.PrintLemmas.{tree-here, printable-first, nothing-here}
 use Rattle.xf_tree.proofs.forest.Forest.to_bare.Goals as goal
 

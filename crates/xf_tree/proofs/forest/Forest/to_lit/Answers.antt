@@ -1,12 +1,12 @@
 use Rattle.std.proofs.Common.{◌≡◌, Some, List, map, sym, ap, ◌∙◌, subst}
 use Rattle.std.specs.Prelude.{IfOk}
-use Rattle.xf_doc.specs.declared.content.Node.{Node}
-use Rattle.xf_doc.specs.Forest.{tree_of}
-use Rattle.xf_doc.specs.Literal.{gathered, first_tree_in, printed}
-use Rattle.xf_doc.specs.Printed.{printing, printed_as}
-use Rattle.xf_walks.specs.Nodes.{node_of}
-use Rattle.xf_literal.specs.Print.{IsPrintable}
-use Rattle.xf_literal.proofs.ShownLemmas.{printed-same}
+use Rattle.xf_def_forest.specs.declared.content.Node.{Node}
+use Rattle.xf_def_forest.specs.Forest.{tree_of}
+use Rattle.xf_def_forest.specs.Literal.{gathered, first_tree_in, printed}
+use Rattle.xf_def_forest.specs.Printed.{printing, printed_as}
+use Rattle.xf_tree_walks.specs.Nodes.{node_of}
+use Rattle.xf_tree_literals.specs.Print.{IsPrintable}
+use Rattle.xf_tree_literals.proofs.ShownLemmas.{printed-same}
 use Rattle.xf_tree.proofs.PrintLemmas.{tree-here, printable-first, printable-printed, nothing-here}
 use Rattle.xf_tree.proofs.forest.Forest.to_lit.Goals.{After-deref}
 use Rattle.xf_tree.proofs.forest.Forest.to_lit.Goals as goal

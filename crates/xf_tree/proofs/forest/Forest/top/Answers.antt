@@ -1,9 +1,9 @@
 use Rattle.std.proofs.Common.{◌<◌, length, ap, ◌∙◌}
 use Rattle.slab.specs.Slab.{get}
-use Rattle.xf_doc.specs.Texts.{Keeping}
-use Rattle.xf_doc.specs.Visit.{visits, top_of}
-use Rattle.xf_rows.specs.declared.rows.Row.{Row}
-use Rattle.xf_slots.specs.Keys.{number_in}
+use Rattle.xf_def_forest.specs.Texts.{Keeping}
+use Rattle.xf_def_forest.specs.Visit.{visits, top_of}
+use Rattle.xf_tree_rows.specs.declared.rows.Row.{Row}
+use Rattle.xf_tree_contents.specs.Keys.{number_in}
 use Rattle.xf_tree.proofs.MeansLemmas.{top-means}
 use Rattle.xf_tree.proofs.forest.Forest.top.Goals as goal
 

@@ -1,10 +1,10 @@
 use Rattle.std.proofs.Common.{map, false, ◌≡◌, sym, ap, ◌∙◌}
-use Rattle.xf_doc.specs.Forest.{has_number}
-use Rattle.xf_doc.specs.StringValue.{pieces, whole}
-use Rattle.xf_doc.specs.Texts.{Keeping}
-use Rattle.xf_doc.specs.Visit.{visits}
-use Rattle.xf_walks.specs.Nodes.{node_of}
-use Rattle.xf_walks.proofs.ReadLemmas.{absent-pieces}
+use Rattle.xf_def_forest.specs.Forest.{has_number}
+use Rattle.xf_def_forest.specs.StringValue.{pieces, whole}
+use Rattle.xf_def_forest.specs.Texts.{Keeping}
+use Rattle.xf_def_forest.specs.Visit.{visits}
+use Rattle.xf_tree_walks.specs.Nodes.{node_of}
+use Rattle.xf_tree_walks.proofs.ReadLemmas.{absent-pieces}
 use Rattle.xf_tree.proofs.MeansLemmas.{pieces-means}
 use Rattle.xf_tree.proofs.forest.Forest.whole_value.Goals as goal
 

@@ -1,11 +1,11 @@
 use Rattle.std.proofs.Common.{◌≡◌, ◌+◌, ◌≤◌, map, Some, false, sym, ap, ◌∙◌, subst, arith}
-use Rattle.xf_doc.specs.declared.content.Kind.TheVariants.{Element}
-use Rattle.xf_doc.specs.Forest.{kind_at}
-use Rattle.xf_doc.specs.Visit.{visits}
-use Rattle.xf_doc.specs.Shape.{has_elements}
-use Rattle.xf_doc.specs.Texts.{Keeping}
-use Rattle.xf_slots.specs.Keys.{kept_of, kept_times}
-use Rattle.xf_walks.specs.Nodes.{StandsAt, node_of, times}
+use Rattle.xf_def_forest.specs.declared.content.Kind.TheVariants.{Element}
+use Rattle.xf_def_forest.specs.Forest.{kind_at}
+use Rattle.xf_def_forest.specs.Visit.{visits}
+use Rattle.xf_def_forest.specs.Shape.{has_elements}
+use Rattle.xf_def_forest.specs.Texts.{Keeping}
+use Rattle.xf_tree_contents.specs.Keys.{kept_of, kept_times}
+use Rattle.xf_tree_walks.specs.Nodes.{StandsAt, node_of, times}
 use Rattle.xf_tree.specs.Settled.{text_written}
 use Rattle.xf_tree.proofs.AddLemmas.{moved-state}
 use Rattle.xf_tree.proofs.ChildlessLemmas.{run-flat}

@@ -1,16 +1,16 @@
 use Rattle.std.proofs.Common.{◌≡◌, ℕ, ◌+◌, ◌-◌, ◌≤◌, ◌^◌, map, get_or, List, true, Some, sym, ap, ◌∙◌, subst, arith}
 use Rattle.std.specs.Prelude.{option_map}
 use Rattle.slab.specs.Slab.{get, Updates}
-use Rattle.xf_doc.specs.declared.content.Kind.TheVariants.{Attribute}
-use Rattle.xf_doc.specs.Forest.{own_text, is_attribute, kind_at}
-use Rattle.xf_doc.specs.Limits.{size_of}
-use Rattle.xf_doc.specs.Texts.{Before, Keeping, attribute_text, with_attribute_text}
-use Rattle.xf_doc.specs.Settle.{numbered_text_set}
-use Rattle.xf_rows.specs.declared.rows.Row.{Row}
-use Rattle.xf_rows.specs.Rows.{no_row}
-use Rattle.xf_slots.specs.Keys.{content_in, kept_of}
-use Rattle.xf_slots.specs.Slots.{valued_slot}
-use Rattle.xf_walks.specs.Nodes.{StandsAt, node_of}
+use Rattle.xf_def_forest.specs.declared.content.Kind.TheVariants.{Attribute}
+use Rattle.xf_def_forest.specs.Forest.{own_text, is_attribute, kind_at}
+use Rattle.xf_def_forest.specs.Limits.{size_of}
+use Rattle.xf_def_forest.specs.Texts.{Before, Keeping, attribute_text, with_attribute_text}
+use Rattle.xf_def_forest.specs.Settle.{numbered_text_set}
+use Rattle.xf_tree_rows.specs.declared.rows.Row.{Row}
+use Rattle.xf_tree_rows.specs.Rows.{no_row}
+use Rattle.xf_tree_contents.specs.Keys.{content_in, kept_of}
+use Rattle.xf_tree_contents.specs.Slots.{valued_slot}
+use Rattle.xf_tree_walks.specs.Nodes.{StandsAt, node_of}
 use Rattle.xf_tree.proofs.AddLemmas.{bytes-most}
 use Rattle.xf_tree.proofs.ValueLemmas.{value-state, value-written, is-attribute, value-view}
 use Rattle.xf_tree.proofs.forest.Forest.write_value.Goals.{After-change_value-before as Written}

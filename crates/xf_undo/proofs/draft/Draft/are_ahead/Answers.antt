@@ -1,6 +1,6 @@
 use Rattle.std.proofs.Common.{subst}
-use Rattle.xf_root_laws.specs.Roots.{AreAhead}
-use Rattle.xf_root_laws.proofs.Stays.{roots_made}
+use Rattle.xf_law_forests.specs.Root.Roots.{AreAhead}
+use Rattle.xf_law_forests.proofs.RootLemmas.Stays.{roots_made}
 use Rattle.xf_undo.specs.Draft.{Draft}
 use Rattle.xf_undo.proofs.draft.Draft.are_ahead.Goals as goal
 

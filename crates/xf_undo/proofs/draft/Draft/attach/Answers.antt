@@ -1,10 +1,10 @@
 use Rattle.std.proofs.Common.{Ok, sym, ap, ◌∙◌, subst}
-use Rattle.xf_doc.specs.Changes.{attached}
-use Rattle.xf_doc.specs.Limits.{limits}
-use Rattle.xf_doc.specs.Needs.{MayAttach}
-use Rattle.xf_doc.specs.Undo.{of_attach, attach_filled}
+use Rattle.xf_def_forest.specs.Changes.{attached}
+use Rattle.xf_def_forest.specs.Limits.{limits}
+use Rattle.xf_def_forest.specs.Needs.{MayAttach}
+use Rattle.xf_def_forest.specs.Undo.{of_attach, attach_filled}
 use Rattle.xf_undo.specs.Draft.{Draft, with_forest}
-use Rattle.xf_rollback_laws.specs.Made.{Made, noted, joined}
+use Rattle.xf_law_forests.specs.Rollback.Made.{Made, noted, joined}
 use Rattle.xf_undo.proofs.DraftLemmas.{drafted, made-as, with_kept, none-free, free-as}
 use Rattle.xf_undo.proofs.draft.Draft.attach.Goals.{After-are_trees-2}
 use Rattle.xf_undo.proofs.draft.Draft.attach.Goals as goal

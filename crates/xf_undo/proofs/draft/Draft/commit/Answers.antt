@@ -1,8 +1,8 @@
 use Rattle.std.proofs.Common.{◌≡◌, sym, ap, ◌∙◌}
-use Rattle.xf_doc.specs.Texts.{Keeping, without_detached}
-use Rattle.xf_doc.specs.Undo.{kept_at}
+use Rattle.xf_def_forest.specs.Texts.{Keeping, without_detached}
+use Rattle.xf_def_forest.specs.Undo.{kept_at}
 use Rattle.xf_undo.specs.Draft.{Draft, draft_of, kept_as, alone}
-use Rattle.xf_rollback_laws.proofs.MadeLemmas.{keeps}
+use Rattle.xf_law_forests.proofs.RollbackLemmas.MadeLemmas.{keeps}
 use Rattle.xf_undo.proofs.DraftLemmas.{made-as, trees-as, kept-draft, none-free}
 use Rattle.xf_undo.proofs.draft.Draft.commit.Goals as goal
 

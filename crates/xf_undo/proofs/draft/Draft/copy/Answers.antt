@@ -1,10 +1,10 @@
 use Rattle.std.proofs.Common.{Ok, refl, sym, ap, ◌∙◌, subst}
-use Rattle.xf_doc.specs.Limits.{limits}
-use Rattle.xf_rollback_laws.specs.Made.{Made}
+use Rattle.xf_def_forest.specs.Limits.{limits}
+use Rattle.xf_law_forests.specs.Rollback.Made.{Made}
 use Rattle.xf_undo.specs.Draft.{Draft, with_tree}
-use Rattle.xf_doc.specs.Changes.{copied}
-use Rattle.xf_doc.specs.Needs.{MayCopy}
-use Rattle.xf_rollback_laws.proofs.GrowthLaws.{copied-made}
+use Rattle.xf_def_forest.specs.Changes.{copied}
+use Rattle.xf_def_forest.specs.Needs.{MayCopy}
+use Rattle.xf_law_forests.proofs.RollbackLemmas.GrowthLaws.{copied-made}
 use Rattle.xf_undo.proofs.DraftLemmas.{drafted, made-as, trees-as, with_kept, none-free}
 use Rattle.xf_undo.proofs.draft.Draft.copy.Goals as goal
 use Rattle.xf_undo.proofs.draft.Draft.copy.Goals.{After-are_trees-2}

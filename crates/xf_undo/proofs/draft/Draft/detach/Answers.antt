@@ -1,10 +1,10 @@
 use Rattle.std.proofs.Common.{sym, ap, ◌∙◌, subst}
-use Rattle.xf_doc.specs.Changes.{detached}
-use Rattle.xf_doc.specs.Needs.{MayDetach}
-use Rattle.xf_doc.specs.Texts.{Keeping}
-use Rattle.xf_doc.specs.Undo.{place_filled}
+use Rattle.xf_def_forest.specs.Changes.{detached}
+use Rattle.xf_def_forest.specs.Needs.{MayDetach}
+use Rattle.xf_def_forest.specs.Texts.{Keeping}
+use Rattle.xf_def_forest.specs.Undo.{place_filled}
 use Rattle.xf_undo.specs.Draft.{Draft, changed}
-use Rattle.xf_rollback_laws.specs.Made.{Made, cut}
+use Rattle.xf_law_forests.specs.Rollback.Made.{Made, cut}
 use Rattle.xf_undo.proofs.DraftLemmas.{drafted, made-as, none-free}
 use Rattle.xf_undo.proofs.draft.Draft.detach.Goals.{After-are_trees-2}
 use Rattle.xf_undo.proofs.draft.Draft.detach.Goals as goal

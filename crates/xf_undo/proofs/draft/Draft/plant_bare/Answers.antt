@@ -1,9 +1,9 @@
 use Rattle.std.proofs.Common.{Ok, refl, sym, ap, ◌∙◌}
-use Rattle.xf_doc.specs.Limits.{limits}
-use Rattle.xf_rollback_laws.specs.Made.{Made}
+use Rattle.xf_def_forest.specs.Limits.{limits}
+use Rattle.xf_law_forests.specs.Rollback.Made.{Made}
 use Rattle.xf_undo.specs.Draft.{Draft, with_tree}
-use Rattle.xf_doc.specs.Planted.{planted_bare}
-use Rattle.xf_rollback_laws.proofs.GrowthLaws.{planted_bare-made}
+use Rattle.xf_def_forest.specs.Planted.{planted_bare}
+use Rattle.xf_law_forests.proofs.RollbackLemmas.GrowthLaws.{planted_bare-made}
 use Rattle.xf_undo.proofs.DraftLemmas.{drafted, made-as, trees-as, with_kept, none-free}
 use Rattle.xf_undo.proofs.draft.Draft.plant_bare.Goals as goal
 use Rattle.xf_undo.proofs.draft.Draft.plant_bare.Goals.{After-are_trees-2}

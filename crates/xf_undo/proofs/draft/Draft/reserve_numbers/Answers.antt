@@ -1,8 +1,8 @@
 use Rattle.std.proofs.Common.{ℕ, List, [], refl, sym, ap, ◌∙◌, subst}
-use Rattle.xf_doc.specs.Texts.{Keeping}
-use Rattle.xf_doc.specs.Settle.{reserved}
+use Rattle.xf_def_forest.specs.Texts.{Keeping}
+use Rattle.xf_def_forest.specs.Settle.{reserved}
 use Rattle.xf_undo.specs.Draft.{Draft, AreFree}
-use Rattle.xf_rollback_laws.specs.Made.{Made, passed}
+use Rattle.xf_law_forests.specs.Rollback.Made.{Made, passed}
 use Rattle.xf_undo.proofs.DraftLemmas.{numbered-draft, made-as, next-free}
 use Rattle.xf_undo.proofs.draft.Draft.reserve_numbers.Goals.{After-are_trees-2}
 use Rattle.xf_undo.proofs.draft.Draft.reserve_numbers.Goals as goal

@@ -1,9 +1,9 @@
 use Rattle.std.proofs.Common.{◌≡◌, ap, ◌∙◌}
-use Rattle.xf_doc.specs.Texts.{Keeping}
+use Rattle.xf_def_forest.specs.Texts.{Keeping}
 use Rattle.xf_undo.specs.Draft.{Draft, plain, changed}
-use Rattle.xf_rollback_laws.specs.Made.{Made}
-use Rattle.xf_rollback_laws.proofs.Laws.{can_roll_back, rolls_back}
-use Rattle.xf_rollback_laws.proofs.MadeLemmas.{keeps-again}
+use Rattle.xf_law_forests.specs.Rollback.Made.{Made}
+use Rattle.xf_law_forests.proofs.RollbackLemmas.Laws.{can_roll_back, rolls_back}
+use Rattle.xf_law_forests.proofs.RollbackLemmas.MadeLemmas.{keeps-again}
 use Rattle.xf_undo.proofs.DraftLemmas.{drafted, made-as, none-free}
 use Rattle.xf_undo.proofs.draft.Draft.roll_back.Goals.{After-are_trees-2}
 use Rattle.xf_undo.proofs.draft.Draft.roll_back.Goals as goal

@@ -1,10 +1,10 @@
 use Rattle.std.proofs.Common.{length, sym, subst}
-use Rattle.xf_doc.specs.Limits.{limits}
-use Rattle.xf_doc.specs.Needs.{IsSettable}
-use Rattle.xf_doc.specs.Texts.{new_texts}
-use Rattle.xf_doc.specs.Undo.{of_text}
+use Rattle.xf_def_forest.specs.Limits.{limits}
+use Rattle.xf_def_forest.specs.Needs.{IsSettable}
+use Rattle.xf_def_forest.specs.Texts.{new_texts}
+use Rattle.xf_def_forest.specs.Undo.{of_text}
 use Rattle.xf_undo.specs.Draft.{Draft}
-use Rattle.xf_rollback_laws.specs.Made.{noted}
+use Rattle.xf_law_forests.specs.Rollback.Made.{noted}
 use Rattle.xf_undo.proofs.DraftLemmas.{made-as, set-kept, set-is, text-made, text-drafted, none-free, free-as}
 use Rattle.xf_undo.proofs.draft.Draft.set_text.Goals as goal
 

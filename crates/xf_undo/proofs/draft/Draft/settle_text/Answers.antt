@@ -1,8 +1,8 @@
 use Rattle.std.proofs.Common.{◌≡◌, ◌++◌, ◌∷◌, [], sym, ap, ◌∙◌, subst}
-use Rattle.xf_doc.specs.Needs.{IsSettable}
-use Rattle.xf_doc.specs.Undo.{of_text}
+use Rattle.xf_def_forest.specs.Needs.{IsSettable}
+use Rattle.xf_def_forest.specs.Undo.{of_text}
 use Rattle.xf_undo.specs.Draft.{Draft, IsUnused, AreFree}
-use Rattle.xf_rollback_laws.specs.Made.{noted}
+use Rattle.xf_law_forests.specs.Rollback.Made.{noted}
 use Rattle.xf_undo.proofs.DraftLemmas.{made-as, free-as, settled-is, settled-kept, settled-free, settled-draft, text-made}
 use Rattle.xf_undo.proofs.draft.Draft.settle_text.Goals.{After-push_reserved}
 use Rattle.xf_undo.proofs.draft.Draft.settle_text.Goals as goal

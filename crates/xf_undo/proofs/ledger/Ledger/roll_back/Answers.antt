@@ -1,7 +1,7 @@
 use Rattle.std.proofs.Common.{ap, ◌∙◌}
-use Rattle.xf_doc.specs.Texts.{without_from}
-use Rattle.xf_doc.specs.Undo.{rolled_back}
-use Rattle.xf_rollback_laws.proofs.Laws.{rolls_back}
+use Rattle.xf_def_forest.specs.Texts.{without_from}
+use Rattle.xf_def_forest.specs.Undo.{rolled_back}
+use Rattle.xf_law_forests.proofs.RollbackLemmas.Laws.{rolls_back}
 use Rattle.xf_undo.proofs.ledger.Ledger.roll_back.Goals as goal
 
 pub returns-clause-law : goal.returns-clause-law

@@ -1,9 +1,0 @@
-//! What an adoption leaves of the form machine. The function does nothing: its contract is a law.
-#![tactic(auto)]
-
-ghost use Rattle.xf_adoption_laws.specs.Adoption.{AdoptionLaws};
-
-/// What an adoption leaves is at rest, but for what is told elsewhere of its trees and its models.
-pub fn adoptions_rest()
-    ensures { AdoptionLaws }
-{}

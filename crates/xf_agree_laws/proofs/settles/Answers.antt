@@ -1,8 +1,0 @@
-use Rattle.xf_agree_laws.proofs.SettledStatic.{settles_once, settles}
-use Rattle.xf_agree_laws.proofs.settles.Goals as goal
-
-pub returns-clause-once : goal.returns-clause-once
-returns-clause-once c = settles_once
-
-pub returns-clause-settled : goal.returns-clause-settled
-returns-clause-settled c = settles

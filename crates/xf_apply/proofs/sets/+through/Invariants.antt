@@ -1,4 +1,0 @@
-use Rattle.xf_apply.proofs.sets.+through.Given as goal
-
-abbrev pub decreases-through : goal.decreases-through
-decreases-through g l = l.bind

@@ -1,0 +1,10 @@
+use Rattle.std.proofs.Common.{◌≡◌, ℕ, ◌==◌, ◌&&◌, ◌||◌, map, take}
+use Rattle.xf_def_forest.specs.declared.node.NodeId.{NodeId}
+use Rattle.xf_def_forest.specs.Visit as doc
+use Rattle.xf_graph.specs.Edges.{has}
+use Rattle.xf_binds_rebuild.specs.Readers.{readers_at}
+use Rattle.xf_binds_rebuild.proofs.readers.add_all.Given as goal
+
+abbrev pub invariant-loop-node : goal.invariant-loop-node
+invariant-loop-node l = (n other : ℕ) → has (readers_at l.readers n) other
+    ≡ ((doc.has n (map (λ (i : NodeId). i.number) (take l.node-index l.nodes)) && (l.place == other)) || has (readers_at l.fn.readers n) other)

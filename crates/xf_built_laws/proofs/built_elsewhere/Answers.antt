@@ -1,8 +1,0 @@
-use Rattle.xf_built_laws.proofs.Elsewhere.{built_elsewhere as law, built_where_stays}
-use Rattle.xf_built_laws.proofs.built_elsewhere.Goals as goal
-
-pub returns-clause-part : goal.returns-clause-part
-returns-clause-part c = law
-
-pub returns-clause-stays : goal.returns-clause-stays
-returns-clause-stays c = built_where_stays

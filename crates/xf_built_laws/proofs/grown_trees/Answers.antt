@@ -1,8 +1,0 @@
-use Rattle.xf_built_laws.proofs.Grown.{grown_again, grown_bare}
-use Rattle.xf_built_laws.proofs.grown_trees.Goals as goal
-
-pub returns-clause-bare : goal.returns-clause-bare
-returns-clause-bare c = grown_bare
-
-pub returns-clause-again : goal.returns-clause-again
-returns-clause-again c = grown_again

@@ -1,8 +1,0 @@
-use Rattle.std.proofs.Common.{sym, ap}
-use Rattle.xf_ui.specs.Interface.{Element}
-use Rattle.xf_elements.proofs.ElementLemmas.{no-element}
-use Rattle.xf_context.specs.Indexes.{has_id}
-use Rattle.xf_context.proofs.indexes.has_id.Goals as goal
-
-pub returns-in-None : goal.returns-in-None
-returns-in-None c = sym (ap (λ (e : Element). has_id e.id c.args.id.now) (no-element c.args.form.now c.args.element c.in-None.ensures))

@@ -1,8 +1,0 @@
-use Rattle.std.proofs.Common.{sym, ap}
-use Rattle.xf_ui.specs.Interface.{Element}
-use Rattle.xf_elements.proofs.ElementLemmas.{no-element}
-use Rattle.xf_context.specs.Texts.{value_in}
-use Rattle.xf_context.proofs.texts.value_of.Goals as goal
-
-pub returns-in-None : goal.returns-in-None
-returns-in-None c = sym (ap (λ (e : Element). value_in e.sort) (no-element c.args.over.now.form.now c.args.element c.in-None.ensures))

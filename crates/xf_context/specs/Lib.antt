@@ -1,5 +1,0 @@
-pub mod Around
-pub mod Indexes
-pub mod Over
-pub mod Inside
-pub mod Texts

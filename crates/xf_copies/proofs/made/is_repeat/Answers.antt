@@ -1,8 +1,0 @@
-use Rattle.std.proofs.Common.{sym, ap}
-use Rattle.xf_ui.specs.Elements.{is_repeat_sort}
-use Rattle.xf_ui.specs.Interface.{Element}
-use Rattle.xf_elements.proofs.ElementLemmas.{no-element}
-use Rattle.xf_copies.proofs.made.is_repeat.Goals as goal
-
-pub returns-in-None : goal.returns-in-None
-returns-in-None c = sym (ap (λ (e : Element). is_repeat_sort e.sort) (no-element c.args.form.now c.args.element c.in-None.ensures))

@@ -1,8 +1,0 @@
-use Rattle.std.proofs.Common.{sym, ap}
-use Rattle.xf_ui.specs.Interface.{Element}
-use Rattle.xf_elements.proofs.ElementLemmas.{no-element}
-use Rattle.xf_controls.specs.Handed.{printed_in}
-use Rattle.xf_copies.proofs.value.printed_in.Goals as goal
-
-pub returns-in-None : goal.returns-in-None
-returns-in-None c = sym (ap (λ (e : Element). printed_in e.sort) (no-element c.args.form.now c.args.element c.in-None.ensures))

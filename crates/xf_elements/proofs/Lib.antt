@@ -1,5 +1,0 @@
-pub mod ElementLemmas
-mod AroundLemmas
-mod ScopeLemmas
-mod HandlerLemmas
-mod NameLemmas

@@ -1,4 +1,0 @@
-use Rattle.xf_elements.proofs.around.+push_above.Given as goal
-
-abbrev pub decreases-push_above : goal.decreases-push_above
-decreases-push_above l = l.most

@@ -1,4 +1,0 @@
-use Rattle.xf_elements.proofs.around.+push_around.Given as goal
-
-abbrev pub decreases-push_around : goal.decreases-push_around
-decreases-push_around l = l.most

@@ -1,4 +1,0 @@
-use Rattle.xf_elements.proofs.scope.+model_above.Given as goal
-
-abbrev pub decreases-model_above : goal.decreases-model_above
-decreases-model_above l = l.most

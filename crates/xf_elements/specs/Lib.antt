@@ -1,6 +1,0 @@
-pub mod Around
-pub mod Bound
-pub mod Scope
-pub mod Handlers
-pub mod Names
-pub mod Parts

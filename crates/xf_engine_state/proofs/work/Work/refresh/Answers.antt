@@ -1,0 +1,52 @@
+use Rattle.std.proofs.Common.{◌≡◌, map, length, sym, ap, ◌∙◌, subst}
+use Rattle.std.proofs.lemmas.List.{with_items_is}
+use Rattle.std.proofs.lemmas.Result.{err_from_is_err_and}
+use Rattle.std.specs.Vec.{with_items}
+use Rattle.xf_def_machine.specs.Update.{all_cleared}
+use Rattle.xf_engine_state.specs.Does.{Twin}
+use Rattle.xf_engine_state.specs.Flags.{without_refresh}
+use Rattle.xf_engine_state.specs.Parts.{chosen_of, standing_of}
+use Rattle.xf_engine_state.specs.Standing.{state_of}
+use Rattle.xf_engine_state.proofs.Models.{flags-map, none-refreshed}
+use Rattle.xf_engine_state.proofs.RefreshLaws.{cleared-done, others-fail}
+use Rattle.xf_engine_state.proofs.SoundLaws.{sound-flags}
+use Rattle.xf_engine_state.proofs.WholeLaws.{KeepsDue, map-keeps}
+use Rattle.xf_engine_state.proofs.work.Work.refresh.Goals as goal
+
+pub returns-in_err-told-clause-done : goal.returns-in_err-told-clause-done
+returns-in_err-told-clause-done c =
+    let p = err_from_is_err_and c.from_residual.result c.from_residual.ensures.1 in
+    rw (p.1, p.2) (others-fail all_cleared c.in_err-told.field-0.0 c.args.self.now.now c.show_brought.new.self.now c.show_brought.new.self.now c.in_err-told.ensures.done)
+
+pub invariant_of-self : goal.invariant_of-self
+invariant_of-self c =
+    let w = c.self.inside in
+    let i = c.self.invariant in
+    let fs = c.clear_refresh.new.flags in
+    let cleared : fs ≡ map without_refresh w.flags.items = c.clear_refresh.ensures ∙ ap (λ gs. map without_refresh gs) c.as_mut_slice.ensures.value in
+    let items = with_items_is w.flags fs (ap length cleared ∙ flags-map w.flags.items without_refresh ∙ sym w.flags.ok.0) in
+    record {
+      sound = sound-flags w.loaded w.draft w.table w.flags.items w.old_flags.items w.built w.old_built i.sound (with_items w.flags fs).items (ap length (items ∙ cleared) ∙ flags-map w.flags.items without_refresh)
+          (subst (KeepsDue w.flags.items) (sym (items ∙ cleared)) (map-keeps w.flags.items));
+      now = i.now;
+      before = i.before;
+      alone = i.alone;
+      indexes = i.indexes;
+      cases = i.cases;
+      plain = i.plain;
+      held = i.held;
+      bound = i.bound;
+      first = i.first;
+    }
+
+pub returns-clause-done : goal.returns-clause-done
+returns-clause-done c =
+    let w = c.self.inside in
+    let fs = c.clear_refresh.new.flags in
+    let cleared : fs ≡ map without_refresh w.flags.items = c.clear_refresh.ensures ∙ ap (λ gs. map without_refresh gs) c.as_mut_slice.ensures.value in
+    let items = with_items_is w.flags fs (ap length cleared ∙ flags-map w.flags.items without_refresh ∙ sym w.flags.ok.0) in
+    let here = standing_of (chosen_of w.indexes.items w.cases.items) w.loaded w.draft.now w.table w.flags.items w.shown.now w.tally in
+    cleared-done all_cleared c.in_ok-told.told c.args.self.now.now c.show_brought.new.self.now (standing_of (chosen_of w.indexes.items w.cases.items) w.loaded w.draft.now w.table (with_items w.flags fs).items w.shown.now w.tally) c.in_ok-told.ensures.done
+    (ap (λ gs. state_of (standing_of (chosen_of w.indexes.items w.cases.items) w.loaded w.draft.now w.table gs w.shown.now w.tally)) (items ∙ cleared)
+    ∙ ap (λ ms. record (state_of here) { models = ms }) (sym (none-refreshed w.table w.flags.items c.self.invariant.sound.many))
+    ∙ ap (λ (t : Twin). all_cleared (state_of t.now)) c.self.view_is)

@@ -1,8 +1,0 @@
-use Rattle.xf_entered_laws.proofs.Recalculating.{entered_recalculated, shape_recalculated}
-use Rattle.xf_entered_laws.proofs.entered_through_recalculations.Goals as goal
-
-pub returns-clause-shape : goal.returns-clause-shape
-returns-clause-shape c = shape_recalculated
-
-pub returns-clause-entered : goal.returns-clause-entered
-returns-clause-entered c = entered_recalculated

@@ -1,0 +1,7 @@
+use Rattle.std.proofs.Common.{sym, ap}
+use Rattle.xf_def_ui.specs.Interface.{Element}
+use Rattle.xf_form_elements.proofs.ElementLemmas.{no-element}
+use Rattle.xf_eval_context.proofs.bound.binding_at.Goals as goal
+
+pub returns-in-None : goal.returns-in-None
+returns-in-None c = sym (ap (λ (e : Element). e.binding) (no-element c.args.form.now c.args.element c.in-None.ensures))

@@ -1,0 +1,34 @@
+use Rattle.std.proofs.Common.{◌++◌, sym, ap, ◌∙◌}
+use Rattle.std.proofs.lemmas.Result.{on_ok_weaker}
+use Rattle.xf_def_forest.specs.Forest.{has_number}
+use Rattle.xf_def_forest.proofs.BackLaws.{and-true}
+use Rattle.xf_eval_shape.specs.Spots.{is_spot}
+use Rattle.xf_eval_shape.proofs.Filled.{append-none}
+use Rattle.xf_eval_dependencies.proofs.AskedLemmas.Spotted.{around-is, around_of}
+use Rattle.xf_eval_dependencies.proofs.asked.lists.push_around.Goals as goal
+
+pub push_parent-requires : goal.push_parent-requires
+push_parent-requires c =
+    let nodes = c.args.forest.now.forest.nodes in
+    (and-true (has_number c.in-Node.node.number nodes) _ (ap (is_spot nodes) (sym c.in-Node.is) ∙ c.requires)).0
+
+pub returns-in-Outside : goal.returns-in-Outside
+returns-in-Outside c =
+    let f = c.args.forest.now.forest in
+    sym (append-none c.args.looks.now)
+    ∙ ap (λ s. c.args.looks.now ++ around_of f.nodes s) (sym c.in-Outside.is)
+    ∙ ap (λ l. c.args.looks.now ++ l) (around-is f c.is_sound.ensures c.args.spot c.requires)
+
+pub returns-in-TextOf : goal.returns-in-TextOf
+returns-in-TextOf c =
+    let f = c.args.forest.now.forest in
+    on_ok_weaker c.push.result
+    (λ h. h ∙ ap (λ s. c.args.looks.now ++ around_of f.nodes s) (sym c.in-TextOf.is) ∙ ap (λ l. c.args.looks.now ++ l) (around-is f c.is_sound.ensures c.args.spot c.requires))
+    c.push.ensures.ok
+
+pub returns-in-Node : goal.returns-in-Node
+returns-in-Node c =
+    let f = c.args.forest.now.forest in
+    on_ok_weaker c.push_parent.result
+    (λ h. h ∙ ap (λ s. c.args.looks.now ++ around_of f.nodes s) (sym c.in-Node.is) ∙ ap (λ l. c.args.looks.now ++ l) (around-is f c.is_sound.ensures c.args.spot c.requires))
+    c.push_parent.ensures

@@ -1,0 +1,12 @@
+//! A form that is loaded.
+
+use xf_def_syntax::Form;
+use xf_name::{Lit, Prefixes};
+
+/// The tables of a form, with its prefixes and the tree that it was read from, in which the trees of its instances stand at their places.
+#[derive(Drop)]
+pub struct Loaded {
+    pub form: Form,
+    pub prefixes: Prefixes,
+    pub lit: Lit,
+}

@@ -1,0 +1,6 @@
+pub mod ElementLemmas
+mod AroundLemmas
+mod ScopeLemmas
+mod HandlerLemmas
+mod NameLemmas
+pub mod SwitchLemmas

@@ -1,5 +1,0 @@
-use Rattle.xf_history.proofs.OneImage.{one_image_laws}
-use Rattle.xf_history.proofs.images_fix_sessions.Goals as goal
-
-pub returns : goal.returns
-returns c = one_image_laws

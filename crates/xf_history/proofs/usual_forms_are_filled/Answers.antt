@@ -1,5 +1,0 @@
-use Rattle.xf_history.proofs.FilledForms.{usual_filled}
-use Rattle.xf_history.proofs.usual_forms_are_filled.Goals as goal
-
-pub returns : goal.returns
-returns c = usual_filled

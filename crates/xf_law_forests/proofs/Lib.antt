@@ -1,0 +1,3 @@
+pub mod RollbackLemmas
+pub mod SettleLemmas
+pub mod RootLemmas

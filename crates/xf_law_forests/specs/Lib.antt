@@ -1,0 +1,3 @@
+pub mod Rollback
+pub mod Settle
+pub mod Root

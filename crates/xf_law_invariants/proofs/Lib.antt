@@ -1,0 +1,4 @@
+pub mod TreeLemmas
+pub mod PlannedLemmas
+pub mod WholeLemmas
+pub mod FrameLemmas

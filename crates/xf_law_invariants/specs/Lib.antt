@@ -1,0 +1,4 @@
+pub mod Tree
+pub mod Planned
+pub mod Whole
+pub mod Frame

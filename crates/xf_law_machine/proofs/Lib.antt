@@ -1,0 +1,4 @@
+pub mod BehavioursLemmas
+pub mod BesideLemmas
+pub mod RestLemmas
+pub mod FirstLemmas

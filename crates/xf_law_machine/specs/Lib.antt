@@ -1,0 +1,4 @@
+pub mod Behaviours
+pub mod Beside
+pub mod Rest
+pub mod First

@@ -1,0 +1,12 @@
+pub mod AgreeLemmas
+pub mod WithinLemmas
+pub mod MarksLemmas
+pub mod EditLemmas
+pub mod ChangeLemmas
+pub mod BindLemmas
+pub mod DocumentLemmas
+pub mod ElsewhereLemmas
+pub mod HeldLemmas
+pub mod PartLemmas
+pub mod WrittenLemmas
+pub mod SinceLemmas

@@ -1,0 +1,12 @@
+pub mod Agree
+pub mod Within
+pub mod Marks
+pub mod Edit
+pub mod Change
+pub mod Bind
+pub mod Document
+pub mod Elsewhere
+pub mod Held
+pub mod Part
+pub mod Written
+pub mod Since

@@ -1,0 +1,12 @@
+pub mod SameLemmas
+pub mod PathLemmas
+pub mod StepLemmas
+pub mod OutcomeLemmas
+pub mod ShownLemmas
+pub mod ControlLemmas
+pub mod AlikeLemmas
+pub mod AdoptionLemmas
+pub mod RoomLemmas
+pub mod KeptLemmas
+pub mod EnteredLemmas
+pub mod StandingLemmas

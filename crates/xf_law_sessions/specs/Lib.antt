@@ -1,0 +1,12 @@
+pub mod Same
+pub mod Path
+pub mod Step
+pub mod Outcome
+pub mod Shown
+pub mod Control
+pub mod Alike
+pub mod Adoption
+pub mod Room
+pub mod Kept
+pub mod Entered
+pub mod Standing

@@ -1,0 +1,2 @@
+pub mod CoveredLemmas
+pub mod FixedLemmas

@@ -1,6 +1,0 @@
-use Rattle.std.proofs.Common.{◌≡◌, ℕ, take}
-use Rattle.xf_doc.specs.Visit.{has}
-use Rattle.xf_literal.proofs.shown.numbers_of.Given as goal
-
-abbrev pub invariant-loop-at : goal.invariant-loop-at
-invariant-loop-at l = (n : ℕ) → has n l.numbers.keys ≡ has n (take l.at l.nodes)

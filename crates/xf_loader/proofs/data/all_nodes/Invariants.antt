@@ -1,6 +1,0 @@
-use Rattle.std.proofs.Common.{◌≡◌, take, sum_by}
-use Rattle.xf_loader.specs.Data.{extent_in}
-use Rattle.xf_loader.proofs.data.all_nodes.Given as goal
-
-abbrev pub invariant-loop-instance : goal.invariant-loop-instance
-invariant-loop-instance l = l.nodes ≡ sum_by (λ i. (extent_in l.form i).nodes) (take l.instance-index l.instances)

@@ -1,5 +1,0 @@
-use Rattle.xf_loader.proofs.DocumentLaw.{loaded_documents}
-use Rattle.xf_loader.proofs.laws.loaded_documents.Goals as goal
-
-pub returns : goal.returns
-returns c = loaded_documents

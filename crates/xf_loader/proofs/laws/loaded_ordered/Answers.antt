@@ -1,5 +1,0 @@
-use Rattle.xf_loader.proofs.OrderLaw.{loaded_ordered}
-use Rattle.xf_loader.proofs.laws.loaded_ordered.Goals as goal
-
-pub returns : goal.returns
-returns c = loaded_ordered

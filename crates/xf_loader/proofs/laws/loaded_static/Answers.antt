@@ -1,5 +1,0 @@
-use Rattle.xf_loader.proofs.StaticLaw.{loaded_static}
-use Rattle.xf_loader.proofs.laws.loaded_static.Goals as goal
-
-pub returns : goal.returns
-returns c = loaded_static

@@ -1,4 +1,0 @@
-use Rattle.xf_loader.proofs.models.+push_places.Given as goal
-
-abbrev pub decreases-push_places : goal.decreases-push_places
-decreases-push_places l = l.depth

@@ -1,8 +1,0 @@
-use Rattle.std.proofs.Common.{◌≡◌, ℕ, List, map, take}
-use Rattle.xf_refusals.specs.Rows.{shown}
-use Rattle.xf_loader.specs.Numbers.{place_from}
-use Rattle.xf_loader.specs.Plan.{found}
-use Rattle.xf_loader.proofs.targets.targets_of.Given as goal
-
-abbrev pub invariant-loop-place : goal.invariant-loop-place
-invariant-loop-place l = (id : List ℕ) → found l.targets id ≡ place_from 0 (map shown (take l.place l.rows)) id

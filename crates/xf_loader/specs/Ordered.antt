@@ -1,8 +1,0 @@
--- What is loaded is numbered in document order.
-use Rattle.std.specs.Prelude.{◌≡◌, ℕ, List, Ok}
-use Rattle.xf_ast.specs.Ordered.{IsOrdered}
-use Rattle.xf_loader.specs.declared.loaded.Loaded.{Loaded}
-use Rattle.xf_loader.specs.Loading.{loaded_in}
-
-abbrev pub LoadedOrdered : Type 0
-LoadedOrdered = (bytes : List ℕ) (loaded : Loaded) → loaded_in bytes ≡ Ok loaded → IsOrdered loaded.form

@@ -1,8 +1,0 @@
-pub mod Binds
-pub mod Graphs
-pub mod Settling
-pub mod Pertinence
-pub mod OfPart
-pub mod Others
-mod Examples
-mod States

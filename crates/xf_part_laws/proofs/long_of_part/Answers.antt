@@ -1,8 +1,0 @@
-use Rattle.xf_part_laws.proofs.OfPart.{long_of_part as law, long_text_of_part}
-use Rattle.xf_part_laws.proofs.long_of_part.Goals as goal
-
-pub returns-clause-entries : goal.returns-clause-entries
-returns-clause-entries c = law
-
-pub returns-clause-text : goal.returns-clause-text
-returns-clause-text c = long_text_of_part

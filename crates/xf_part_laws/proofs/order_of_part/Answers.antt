@@ -1,8 +1,0 @@
-use Rattle.xf_part_laws.proofs.OfPart.{graph_of_part, order_of_part as law}
-use Rattle.xf_part_laws.proofs.order_of_part.Goals as goal
-
-pub returns-clause-graph : goal.returns-clause-graph
-returns-clause-graph c = graph_of_part
-
-pub returns-clause-acyclic : goal.returns-clause-acyclic
-returns-clause-acyclic c = law

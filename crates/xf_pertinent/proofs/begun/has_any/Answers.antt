@@ -1,9 +1,0 @@
-use Rattle.std.proofs.Common.{sym, ◌∙◌}
-use Rattle.xf_doc.specs.declared.node.NodeId.{NodeId}
-use Rattle.xf_doc.specs.Visit.{has}
-use Rattle.xf_pertinent.proofs.Lists.{any-there}
-use Rattle.xf_pertinent.proofs.begun.has_any.Goals as goal
-
-pub returns-then-has : goal.returns-then-has
-returns-then-has c =
-    sym (any-there (λ n. has n c.args.numbers.now) (λ (i : NodeId). i.number) c.args.nodes.now c.loop-node.node-index _ c.loop-node-test.true (sym c.has.ensures ∙ c.if-has.true))

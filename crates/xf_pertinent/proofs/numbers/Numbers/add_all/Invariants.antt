@@ -1,8 +1,0 @@
-use Rattle.std.proofs.Common.{map, take}
-use Rattle.xf_doc.specs.declared.node.NodeId.{NodeId}
-use Rattle.xf_doc.specs.Visit.{has}
-use Rattle.xf_pertinent.specs.Spread.{Hears}
-use Rattle.xf_pertinent.proofs.numbers.Numbers.add_all.Given as goal
-
-abbrev pub invariant-loop-node : goal.invariant-loop-node
-invariant-loop-node l = Hears l.fn.self l.self (λ n. has n (map (λ (i : NodeId). i.number) (take l.node-index l.nodes)))

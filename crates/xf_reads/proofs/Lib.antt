@@ -1,6 +1,0 @@
-pub mod Levels
-pub mod Calls
-pub mod Rounds
-pub mod Told
-pub mod Around
-pub mod Wholes

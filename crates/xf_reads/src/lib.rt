@@ -1,9 +1,0 @@
-//! What an expression reads and looks at over the shape of a forest, which is never made.
-#![tactic(auto)]
-
-mod arguments;
-mod expression;
-mod ways;
-mod whole;
-
-pub use whole::{asks, looks, reads};

@@ -1,5 +1,0 @@
-use Rattle.xf_rebuild.proofs.Told.{links_defined}
-use Rattle.xf_rebuild.proofs.laws.links_defined.Goals as goal
-
-pub returns : goal.returns
-returns c = links_defined

@@ -1,5 +1,0 @@
-use Rattle.xf_rebuild.proofs.MetByGraph.{pertinent_met}
-use Rattle.xf_rebuild.proofs.laws.pertinent_met.Goals as goal
-
-pub returns : goal.returns
-returns c = pertinent_met

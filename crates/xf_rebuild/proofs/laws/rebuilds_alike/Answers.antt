@@ -1,5 +1,0 @@
-use Rattle.xf_rebuild.proofs.MachineLaw.{rebuilds_alike}
-use Rattle.xf_rebuild.proofs.laws.rebuilds_alike.Goals as goal
-
-pub returns : goal.returns
-returns c = rebuilds_alike

@@ -1,7 +1,0 @@
-use Rattle.std.proofs.Common.{◌≡◌, take}
-use Rattle.xf_binds.specs.Held.{entries_in}
-use Rattle.xf_rebuild.specs.Links.{calculated_nodes}
-use Rattle.xf_rebuild.proofs.ring.calculated.Given as goal
-
-abbrev pub invariant-loop-at : goal.invariant-loop-at
-invariant-loop-at l = l.nodes ≡ calculated_nodes (take l.at (entries_in l.fn.applied))

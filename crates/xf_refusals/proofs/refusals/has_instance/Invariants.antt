@@ -1,8 +1,0 @@
-use Rattle.std.proofs.Common.{◌≡◌, map, drop}
-use Rattle.std.specs.List.{list_any}
-use Rattle.xf_refusals.specs.Refusals.{is_instance_in}
-use Rattle.xf_refusals.specs.Rows.{shown}
-use Rattle.xf_refusals.proofs.refusals.has_instance.Given as goal
-
-abbrev pub invariant-loop-part : goal.invariant-loop-part
-invariant-loop-part l = list_any (is_instance_in (map shown l.rows)) l.parts ≡ list_any (is_instance_in (map shown l.rows)) (drop l.part-index l.parts)

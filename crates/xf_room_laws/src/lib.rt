@@ -1,9 +1,0 @@
-//! How many numbers nodes have been given. The function does nothing: its contract is a law.
-#![tactic(auto)]
-
-ghost use Rattle.xf_room_laws.specs.Room.{RoomLaws};
-
-/// What a start and an adoption leave has room for the nodes of all events that come.
-pub fn states_have_room()
-    ensures { RoomLaws }
-{}

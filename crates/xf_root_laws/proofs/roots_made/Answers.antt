@@ -1,8 +1,0 @@
-use Rattle.xf_root_laws.proofs.Stays.{roots_made as made_law, roots_rolled_back}
-use Rattle.xf_root_laws.proofs.roots_made.Goals as goal
-
-pub returns-clause-made : goal.returns-clause-made
-returns-clause-made c = made_law
-
-pub returns-clause-rolled_back : goal.returns-clause-rolled_back
-returns-clause-rolled_back c = roots_rolled_back

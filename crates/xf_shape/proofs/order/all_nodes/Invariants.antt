@@ -1,6 +1,0 @@
-use Rattle.std.proofs.Common.{◌≡◌, take}
-use Rattle.xf_shape.specs.Woven.{all_numbers}
-use Rattle.xf_shape.proofs.order.all_nodes.Given as goal
-
-abbrev pub invariant-loop-spot : goal.invariant-loop-spot
-invariant-loop-spot l = l.nodes ≡ all_numbers (take l.spot-index l.spots)

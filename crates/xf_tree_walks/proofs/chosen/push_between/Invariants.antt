@@ -1,0 +1,10 @@
+use Rattle.std.proofs.Common.{◌≡◌, ◌++◌, ◌-◌}
+use Rattle.xf_tree_walks.specs.Found.{sought_within}
+use Rattle.xf_tree_walks.specs.Walks.{is_plain}
+use Rattle.xf_tree_walks.proofs.chosen.push_between.Given as goal
+
+abbrev pub invariant-loop-next : goal.invariant-loop-next
+invariant-loop-next l = l.found ++ sought_within l.slots l.rows.items l.sought is_plain l.next l.end ≡ l.initial.found ++ sought_within l.slots l.rows.items l.sought is_plain l.fn.at l.end
+
+abbrev pub decreases-loop-next : goal.decreases-loop-next
+decreases-loop-next l = l.end - l.next

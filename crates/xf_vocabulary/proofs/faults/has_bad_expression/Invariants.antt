@@ -1,8 +1,0 @@
-use Rattle.std.proofs.Common.{◌≡◌, map, drop}
-use Rattle.std.specs.List.{list_any}
-use Rattle.xf_vocabulary.specs.Attributes.{shown}
-use Rattle.xf_vocabulary.specs.Faults.{is_bad_expression}
-use Rattle.xf_vocabulary.proofs.faults.has_bad_expression.Given as goal
-
-abbrev pub invariant-loop-one : goal.invariant-loop-one
-invariant-loop-one l = list_any (is_bad_expression l.decimals l.prefixes l.tag) (map shown l.known) ≡ list_any (is_bad_expression l.decimals l.prefixes l.tag) (map shown (drop l.one-index l.known))

@@ -1,5 +1,0 @@
-use Rattle.std.proofs.Common.{length}
-use Rattle.xf_work.proofs.around.+document_of.Given as goal
-
-abbrev pub decreases-document_of : goal.decreases-document_of
-decreases-document_of l = length l.instances.now

@@ -1,6 +1,0 @@
-use Rattle.std.proofs.Common.{drop}
-use Rattle.xf_work.proofs.ToldLaws.{AreSoFar}
-use Rattle.xf_work.proofs.rebuilding.paths_in.Given as goal
-
-abbrev pub invariant-loop-node : goal.invariant-loop-node
-invariant-loop-node l = AreSoFar l.instances l.forest.forest l.paths (drop l.node-index l.nodes) l.fn.nodes

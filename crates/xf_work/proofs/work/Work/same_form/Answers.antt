@@ -1,7 +1,0 @@
-use Rattle.std.proofs.Common.{◌≡◌, refl, subst}
-use Rattle.xf_work.specs.Does.{Twin}
-use Rattle.xf_work.specs.Standing.{state_of}
-use Rattle.xf_work.proofs.work.Work.same_form.Goals as goal
-
-pub returns : goal.returns
-returns c = subst (λ (t : Twin). (state_of t.kept.standing).form ≡ (state_of t.now).form) c.self.view_is refl

@@ -1,9 +1,0 @@
-use Rattle.xf_form_machine.specs.Update.{due_rebuild}
-use Rattle.xf_actions.proofs.Flow.{refuses-then, stopped}
-use Rattle.xf_processor.specs.Formed.{profile}
-use Rattle.xf_world.specs.State.{state_of}
-use Rattle.xf_world.proofs.due.recalculate_due.Goals as goal
-
-pub returns-in_err-rebuild_due-clause-done : goal.returns-in_err-rebuild_due-clause-done
-returns-in_err-rebuild_due-clause-done c =
-    stopped _ _ _ _ _ c.from_residual.ensures.1 (refuses-then _ _ (due_rebuild profile c.args.model (state_of c.args.world.now)) _ c.in_err-rebuild_due.ensures.done)
