@@ -136,6 +136,10 @@ depth_limit = 100
 abbrev pub slot_limit : ℕ
 slot_limit = 2 ^ 26
 
+-- the bytes in use, its last gate counted, with which a slot still takes an event
+abbrev pub used_limit : ℕ
+used_limit = 2 ^ 25
+
 -- one more than a session's form is ever changed
 abbrev pub adoption_limit : ℕ
 adoption_limit = 2 ^ 31

@@ -2,7 +2,7 @@
 //!
 //! Sizes are bytes unless another unit is named.
 ghost use Rattle.std.specs.Prelude.{◌≡◌};
-ghost use Rattle.xf_base.specs.Limits.{line_limit, stream_limit, event_name_limit, turn_limit, dispatch_limit, note_limit, made_limit, found_limit, answer_limit, store_name_limit, part_limit, namespace_limit, prefix_limit, expression_limit, nesting_limit, string_limit, edge_limit, form_limit, model_limit, instance_limit, bind_limit, control_limit, copy_limit, pass_limit, told_limit, node_limit, text_limit, all_limit, depth_limit, slot_limit, adoption_limit};
+ghost use Rattle.xf_base.specs.Limits.{line_limit, stream_limit, event_name_limit, turn_limit, dispatch_limit, note_limit, made_limit, found_limit, answer_limit, store_name_limit, part_limit, namespace_limit, prefix_limit, expression_limit, nesting_limit, string_limit, edge_limit, form_limit, model_limit, instance_limit, bind_limit, control_limit, copy_limit, pass_limit, told_limit, node_limit, text_limit, all_limit, depth_limit, slot_limit, used_limit, adoption_limit};
 
 // ---- the event stream
 
@@ -108,6 +108,9 @@ pub const DEPTH_LIMIT: u32 = 100;
 /// A slot of a session's journal.
 pub const SLOT_LIMIT: usize = 67_108_864;
 
+/// The bytes in use, its last gate counted, with which a slot still takes an event.
+pub const USED_LIMIT: u64 = 33_554_432;
+
 /// One more than a session's form is ever changed.
 pub const ADOPTION_LIMIT: u32 = 2_147_483_648;
 
@@ -169,5 +172,6 @@ pub fn limits_of_trees()
 /// The limits of a session that is kept.
 pub fn limits_of_sessions()
     ensures slot { SLOT_LIMIT ≡ slot_limit }
+    ensures used { USED_LIMIT ≡ used_limit }
     ensures adoption { ADOPTION_LIMIT ≡ adoption_limit }
 {}
