@@ -123,7 +123,6 @@ pub struct Tables {
 }
 
 /// A form: its models, and all elements outside its instances.
-#[derive(Drop)]
 pub struct Form {
     /// How many decimals its numbers have: the attribute `decimals` of the first model.
     pub decimals: Decimals,
@@ -136,4 +135,21 @@ pub struct Form {
     pub submissions: ElementList,
     pub repeats: ElementList,
     pub switches: ElementList,
+}
+
+// Written out: a derived one is proved anew for each type within it, in each crate that gives one up.
+impl Drop for Form {
+    fn drop(self) {
+        let Form {
+            decimals: _,
+            tables: _,
+            elements: _,
+            models: _,
+            instances: _,
+            binds: _,
+            submissions: _,
+            repeats: _,
+            switches: _,
+        } = self;
+    }
 }
