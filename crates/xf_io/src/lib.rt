@@ -1,6 +1,7 @@
 //! Sources, sinks and the lines of a stream, with counted faults.
 #![tactic(auto)]
 
+mod again;
 mod bytes;
 mod failing;
 mod folder;
@@ -11,6 +12,7 @@ mod real;
 mod sink;
 mod source;
 
+pub use again::read_again;
 pub use bytes::Bytes;
 pub use failing::FailingCalls;
 pub use folder::sync_folder_of;

@@ -1,18 +1,21 @@
-//! The real streams and files, which tell no content and count each error.
+//! The real streams and files, which tell no content and count each error. A call that a signal interrupts is none: it is made
+//! again.
 
 ghost use Rattle.std.specs.Prelude.{◌≡◌, None};
 
+use crate::again::{flush_again, read_again, write_again};
 use crate::{Failed, Sink, Source};
-use std::fs;
-use std::io::{Read, Write};
+use std::io::{ErrorKind, Read, Write};
 use std::marker::Model;
 use std::rt::Files;
+use std::{fs, io};
 
 /// Any reader. Contracts see how often it has failed.
 #[derive(Drop)]
 pub struct ReaderSource<R: Read> {
     inner: R,
     failed: u64,
+    why: Option<io::Error>,
 }
 
 impl<R: Read> Model for ReaderSource<R> {
@@ -27,7 +30,16 @@ impl<R: Read> ReaderSource<R> {
     pub fn new(inner: R) -> Self
         ensures { result ≡ 0 }
     {
-        ReaderSource { inner, failed: 0 }
+        ReaderSource {
+            inner,
+            failed: 0,
+            why: None,
+        }
+    }
+
+    /// The error of the last read that failed.
+    pub fn why(&self) -> Option<io::Error> {
+        self.why
     }
 }
 
@@ -37,9 +49,10 @@ impl<R: Read> Source for ReaderSource<R> {
     ghost faults = { λ failed. failed };
 
     fn read(&mut self, into: &mut [u8]) -> Result<usize, Failed> {
-        match self.inner.read(into) {
+        match read_again(&mut self.inner, into) {
             Ok(count) => Ok(count),
-            Err(_) => {
+            Err(error) => {
+                self.why = Some(error);
                 self.failed = self.failed.saturating_add(1);
                 Err(Failed)
             }
@@ -54,6 +67,7 @@ pub struct FileSource<'a, R: Files> {
     name: &'static str,
     file: Option<R::File>,
     failed: u64,
+    why: Option<io::Error>,
 }
 
 impl<'a, R: Files> Model for FileSource<'a, R> {
@@ -73,7 +87,13 @@ impl<'a, R: Files> FileSource<'a, R> {
             name,
             file: None,
             failed: 0,
+            why: None,
         }
+    }
+
+    /// The error of the last read that failed, or of the opening in its place.
+    pub fn why(&self) -> Option<io::Error> {
+        self.why
     }
 }
 
@@ -86,15 +106,17 @@ impl<R: Files> Source for FileSource<'_, R> {
         if self.file.is_none() {
             match fs::open(self.rt, self.name) {
                 Ok(file) => self.file = Some(file),
-                Err(_) => {
+                Err(error) => {
+                    self.why = Some(error);
                     self.failed = self.failed.saturating_add(1);
                     return Err(Failed);
                 }
             }
         }
         if let Some(file) = &mut self.file {
-            if let Ok(count) = file.read(into) {
-                return Ok(count);
+            match read_again(file, into) {
+                Ok(count) => return Ok(count),
+                Err(error) => self.why = Some(error),
             }
         }
         self.failed = self.failed.saturating_add(1);
@@ -107,6 +129,7 @@ impl<R: Files> Source for FileSource<'_, R> {
 pub struct WriterSink<W: Write> {
     inner: W,
     failed: u64,
+    why: Option<io::Error>,
 }
 
 impl<W: Write> Model for WriterSink<W> {
@@ -121,7 +144,16 @@ impl<W: Write> WriterSink<W> {
     pub fn new(inner: W) -> Self
         ensures { result ≡ 0 }
     {
-        WriterSink { inner, failed: 0 }
+        WriterSink {
+            inner,
+            failed: 0,
+            why: None,
+        }
+    }
+
+    /// The error of the last write or flush that failed.
+    pub fn why(&self) -> Option<io::Error> {
+        self.why
     }
 }
 
@@ -133,19 +165,24 @@ impl<W: Write> Sink for WriterSink<W> {
     ghost faults = { λ failed. failed };
 
     fn write(&mut self, bytes: &[u8]) -> Result<usize, Failed> {
-        if let Ok(count) = self.inner.write(bytes) {
-            if count > 0 || bytes.is_empty() {
-                return Ok(count);
+        match write_again(&mut self.inner, bytes) {
+            Ok(count) => {
+                if count > 0 || bytes.is_empty() {
+                    return Ok(count);
+                }
+                self.why = Some(ErrorKind::WriteZero.into());
             }
+            Err(error) => self.why = Some(error),
         }
         self.failed = self.failed.saturating_add(1);
         Err(Failed)
     }
 
     fn flush(&mut self) -> Result<(), Failed> {
-        match self.inner.flush() {
+        match flush_again(&mut self.inner) {
             Ok(()) => Ok(()),
-            Err(_) => {
+            Err(error) => {
+                self.why = Some(error);
                 self.failed = self.failed.saturating_add(1);
                 Err(Failed)
             }

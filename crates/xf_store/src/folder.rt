@@ -4,18 +4,20 @@ ghost use Rattle.std.specs.Prelude.{◌≡◌, ◌≤◌, None, length, IfOk};
 use crate::fault::counted;
 use crate::{GetFault, Got, Store};
 use std::alloc::{AllocError, Global};
-use std::fs::OpenFile;
+use std::fs::{OpenFile, OpenOptions};
 use std::io::{ErrorKind, Read, Write};
 use std::marker::Model;
 use std::rt::Files;
 use std::{fs, io};
 use xf_base::limits::{FOUND_LIMIT, STORE_NAME_LIMIT};
-use xf_io::{Bytes, Failed, sync_folder_of};
+use xf_io::{Bytes, Failed, read_again, sync_folder_of};
 
-/// A folder whose files are the named bytes. A put writes a file of another name, which no name here may
-/// have, and renames it, so that it is made whole or not at all; it makes the folder where there is none.
-/// The names of the file and of the folder are durable after it. The caller tries the names. It counts each error,
-/// and tells no content.
+/// A folder whose files are the named bytes. A put makes a file of another name, which no name here may have, and renames it, so
+/// that a resource is made whole or not at all; it makes the folder where there is none. What stands under that other name is
+/// removed first, and never written to: a link there leads nowhere. Of a put that fails nothing is left.
+/// The names of the file and of the folder are durable after a put. A get reads a plain file, or the one that a link leads to; one
+/// of anything else fails at once, since the opening of a fifo may never end. The caller tries the names. The store counts each
+/// error, and tells no content.
 #[derive(Drop)]
 pub struct FolderStore<'a, R: Files> {
     files: &'a R,
@@ -62,10 +64,12 @@ impl<'a, R: Files> FolderStore<'a, R> {
     {
         set_path(&mut self.path, self.folder.as_str(), name)?;
         let temporary = self.temporary.as_str();
-        let mut file = created(self.files, self.folder.as_str(), temporary)?;
-        file.write_all(bytes)?;
-        file.sync_all()?;
-        fs::rename(self.files, temporary, self.path.as_str())?;
+        let file = made_anew(self.files, self.folder.as_str(), temporary)?;
+        if let Err(error) = put_whole(self.files, file, bytes, temporary, self.path.as_str()) {
+            // where this fails too, the next put removes it
+            let _ = fs::remove_file(self.files, temporary);
+            return Err(error);
+        }
         // a name is durable where its folder is
         sync_folder_of(self.files, self.path.as_str())?;
         if !self.is_named {
@@ -94,28 +98,20 @@ impl<R: Files> Store for FolderStore<'_, R> {
 
     fn get(&mut self, name: &str, into: &mut Bytes) -> Result<Got, GetFault> {
         set_path(&mut self.path, self.folder.as_str(), name)?;
-        match fs::open(self.files, self.path.as_str()) {
-            Ok(file) => match read_at_most(self.alloc, file) {
-                Ok(bytes) => {
-                    if bytes.len() > FOUND_LIMIT {
-                        return Ok(Got::TooLong);
-                    }
-                    *into = Bytes::from_vec(bytes);
-                    Ok(Got::Found)
+        match read_plain(self.alloc, self.files, self.path.as_str()) {
+            Ok(Some(bytes)) => {
+                if bytes.len() > FOUND_LIMIT {
+                    return Ok(Got::TooLong);
                 }
-                Err(GetFault::Failed) => {
-                    counted(&mut self.failed);
-                    Err(GetFault::Failed)
-                }
-                Err(GetFault::Memory) => Err(GetFault::Memory),
-            },
-            Err(error) => {
-                if error.kind() == ErrorKind::NotFound {
-                    return Ok(Got::Absent);
-                }
+                *into = Bytes::from_vec(bytes);
+                Ok(Got::Found)
+            }
+            Ok(None) => Ok(Got::Absent),
+            Err(GetFault::Failed) => {
                 counted(&mut self.failed);
                 Err(GetFault::Failed)
             }
+            Err(GetFault::Memory) => Err(GetFault::Memory),
         }
     }
 }
@@ -127,18 +123,60 @@ fn set_path(path: &mut String, folder: &str, name: &str) -> Result<(), AllocErro
     path.push_str(name)
 }
 
-/// Makes a file, and its folder where there is none.
-fn created<R: Files>(files: &R, folder: &str, path: &str) -> io::Result<R::File> {
-    match fs::create(files, path) {
+/// Makes a file that was not there: what an earlier put left under its name is removed, and the folder is made where there is none.
+fn made_anew<R: Files>(files: &R, folder: &str, path: &str) -> io::Result<R::File> {
+    match made(files, path) {
         Ok(file) => Ok(file),
         Err(error) => {
-            if error.kind() != ErrorKind::NotFound {
-                return Err(error);
+            match error.kind() {
+                ErrorKind::AlreadyExists => fs::remove_file(files, path)?,
+                ErrorKind::NotFound => fs::create_dir(files, folder)?,
+                _ => return Err(error),
             }
-            fs::create_dir(files, folder)?;
-            fs::create(files, path)
+            made(files, path)
         }
     }
+}
+
+fn made<R: Files>(files: &R, path: &str) -> io::Result<R::File> {
+    OpenOptions::new()
+        .write(true)
+        .create_new(true)
+        .open(files, path)
+}
+
+/// Writes a new file, and gives it its name once all of it is durable.
+fn put_whole<R: Files>(
+    files: &R,
+    file: R::File,
+    bytes: &[u8],
+    from: &str,
+    to: &str,
+) -> io::Result<()> {
+    let mut file = file;
+    file.write_all(bytes)?;
+    file.sync_all()?;
+    fs::rename(files, from, to)
+}
+
+/// What a plain file holds, or more of it than a get gives. None where there is no file.
+fn read_plain<R: Files>(alloc: Global, files: &R, path: &str) -> Result<Option<Vec<u8>>, GetFault> {
+    match open_plain(files, path) {
+        Ok(file) => Ok(Some(read_at_most(alloc, file)?)),
+        Err(error) => {
+            if error.kind() == ErrorKind::NotFound {
+                return Ok(None);
+            }
+            Err(GetFault::Failed)
+        }
+    }
+}
+
+fn open_plain<R: Files>(files: &R, path: &str) -> io::Result<R::File> {
+    if !fs::metadata(files, path)?.is_file() {
+        return Err(ErrorKind::InvalidInput.into());
+    }
+    fs::open(files, path)
 }
 
 /// Reads a file to its end, or to more than a get gives.
@@ -147,7 +185,7 @@ fn read_at_most<F: Read + Drop>(alloc: Global, file: F) -> Result<Vec<u8>, GetFa
     let mut bytes = Vec::new(alloc);
     let mut piece = [0; 8192];
     while bytes.len() <= FOUND_LIMIT {
-        match file.read(&mut piece) {
+        match read_again(&mut file, &mut piece) {
             Ok(count) => {
                 if count == 0 {
                     return Ok(bytes);
