@@ -13,6 +13,8 @@ const BROKEN: &str = "xf_test_devices_broken";
 
 const FAILING: &str = "xf_test_devices_failing";
 
+const LINKED: &str = "xf_test_devices_linked";
+
 #[derive(Clone, Copy)]
 enum Call<'a> {
     Put(&'a str, &'a [u8]),
@@ -98,21 +100,41 @@ fn a_store_tells_that_a_name_did_not_open(rt: HostRuntime) {
 
 #[test]
 fn a_store_tells_that_a_file_failed(rt: HostRuntime) {
-    // a get of a file that opens and gives no byte; a put through a file that takes no byte, and through one that syncs nothing: the
-    // name stays as it was
-    const CALLS: [Call<'static>; 4] = [
-        Call::Get("mem"),
-        Call::Put("a", b"x"),
-        Call::Put("a", b""),
-        Call::Get("a"),
-    ];
+    // a get of a file that opens and gives no byte; a put past a folder in the place of the file that it makes
+    const CALLS: [Call<'static>; 3] = [Call::Get("mem"), Call::Put("a", b"x"), Call::Get("a")];
     let _ = fs::remove_dir_all(&rt, FAILING);
-    fs::create_dir(&rt, FAILING).expect(&rt, FAILING);
+    fs::create_dir_all(&rt, "xf_test_devices_failing/.put").expect(&rt, FAILING);
     symlink(&rt, "/proc/self/mem", "xf_test_devices_failing/mem").expect(&rt, "a link");
-    symlink(&rt, "/dev/full", "xf_test_devices_failing/.put").expect(&rt, "a link");
     let words = told(&rt, FAILING, &CALLS).expect(&rt, "room");
-    assert_eq!(rt; words.as_str(), "failed failed failed absent ");
+    assert_eq!(rt; words.as_str(), "failed failed absent ");
     let _ = fs::remove_dir_all(&rt, FAILING);
+}
+
+#[test]
+fn a_put_follows_no_link_and_leaves_nothing_behind(rt: HostRuntime) {
+    // a put with a link to another resource in the place of the file that it makes; one that fails at its last step; and
+    // gets by a link to a file and by one to a device
+    const CALLS: [Call<'static>; 6] = [
+        Call::Put("kept", b"kept"),
+        Call::Put("a", b"x"),
+        Call::Get("kept"),
+        Call::Get("a"),
+        Call::Put("folder", b"y"),
+        Call::Get("device"),
+    ];
+    let _ = fs::remove_dir_all(&rt, LINKED);
+    fs::create_dir_all(&rt, "xf_test_devices_linked/folder").expect(&rt, LINKED);
+    symlink(&rt, "/dev/zero", "xf_test_devices_linked/device").expect(&rt, "a link");
+    let words = told(&rt, LINKED, &CALLS[..1]).expect(&rt, "room");
+    assert_eq!(rt; words.as_str(), "done ");
+    symlink(&rt, "kept", "xf_test_devices_linked/.put").expect(&rt, "a link");
+    let words = told(&rt, LINKED, &CALLS[1..]).expect(&rt, "room");
+    assert_eq!(rt; words.as_str(), "done kept x failed failed ");
+    let left = fs::symlink_metadata(&rt, "xf_test_devices_linked/.put");
+    assert!(rt; left.is_err());
+    let about = fs::symlink_metadata(&rt, "xf_test_devices_linked/a").expect(&rt, "a file");
+    assert!(rt; about.is_file());
+    let _ = fs::remove_dir_all(&rt, LINKED);
 }
 
 #[test]

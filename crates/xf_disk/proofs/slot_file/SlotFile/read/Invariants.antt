@@ -1,5 +1,5 @@
 use Rattle.std.proofs.Common.{◌≤◌, ◌-◌, length}
-use Rattle.xf_disk.proofs.file.SlotFile.read.Given as goal
+use Rattle.xf_disk.proofs.slot_file.SlotFile.read.Given as goal
 
 abbrev pub invariant-loop-count : goal.invariant-loop-count
 invariant-loop-count g l = l.count ≤ length l.into
