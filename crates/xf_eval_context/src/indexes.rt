@@ -64,13 +64,12 @@ pub(crate) fn index_named(form: &Form, indexes: &[Index], id: &str) -> Option<u3
 fn index_among(form: &Form, indexes: &[Index], repeats: &[u32], id: &str) -> Option<u32>
     ensures { result ≡ beside id.now (named_among (interface_of form.now) (map seen_index indexes.now) repeats.now) }
 {
-    if repeats.is_empty() {
-        return None;
+    for repeat in repeats {
+        if has_id(form, *repeat, id) {
+            return Some(index_of(form, indexes, *repeat).index);
+        }
     }
-    if has_id(form, repeats[0], id) {
-        return Some(index_of(form, indexes, repeats[0]).index);
-    }
-    index_among(form, indexes, &repeats[1..], id)
+    None
 }
 
 fn has_id(form: &Form, element: u32, id: &str) -> bool

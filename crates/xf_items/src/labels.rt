@@ -59,13 +59,13 @@ fn text_among(
 fn first_sought(form: &Form, sought: Sought, parts: &[Part]) -> Option<u32>
     ensures { result ≡ find (λ m. items.is_sought sought (element_at (interface_of form.now) m).sort) (flat_map child_in parts.now) }
 {
-    if parts.is_empty() {
-        return None;
+    for part in parts {
+        let found = sought_in(form, sought, part);
+        if found.is_some() {
+            return found;
+        }
     }
-    match sought_in(form, sought, &parts[0]) {
-        Some(element) => Some(element),
-        None => first_sought(form, sought, &parts[1..]),
-    }
+    None
 }
 
 /// The element that a part is, where it is a label or a value.

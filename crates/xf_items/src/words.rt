@@ -40,13 +40,12 @@ pub fn is_chosen(many: bool, text: &str, item: &Item) -> bool
 fn has_value(items: &[Item], text: &[u8]) -> bool
     ensures { result ≡ has_value items.now text.now }
 {
-    if items.is_empty() {
-        return false;
+    for item in items {
+        if item.value.as_bytes() == text {
+            return true;
+        }
     }
-    if items[0].value.as_bytes() == text {
-        return true;
-    }
-    has_value(&items[1..], text)
+    false
 }
 
 /// Whether a word of a text is the value of no item.

@@ -1,5 +1,4 @@
 pub mod PlaceLaws
-pub mod PlacedLaws
 pub mod NamedLaws
 pub mod PassLaws
 pub mod UpLaws

@@ -48,16 +48,19 @@ pub(crate) fn is_same_node(one: Option<NodeId>, other: Option<NodeId>) -> bool
 pub(crate) fn are_same(some: &[Index], others: &[Index]) -> bool
     ensures { result ≡ ui.same_indexes (map seen_index some.now) (map seen_index others.now) }
 {
-    if some.is_empty() {
-        return others.is_empty();
+    let mut left = some;
+    let mut others_left = others;
+    while let (Some((one, more)), Some((other, rest))) = (
+        left.split_first(),
+        others_left.split_first(),
+    ) {
+        if !is_same(*one, *other) {
+            return false;
+        }
+        left = more;
+        others_left = rest;
     }
-    if others.is_empty() {
-        return false;
-    }
-    if !is_same(some[0], others[0]) {
-        return false;
-    }
-    are_same(&some[1..], &others[1..])
+    left.is_empty() && others_left.is_empty()
 }
 
 fn is_same(one: Index, other: Index) -> bool

@@ -1,6 +1,6 @@
 -- Digits without needless zeros, the order of digits, and small whole numbers.
-use Rattle.std.proofs.Common.{◌≡◌, ℕ, zero, suc, ◌+◌, ◌-◌, ◌*◌, ◌^◌, ◌<◌, ◌≤◌, min, Bool, true, false, ◌&&◌, ◌||◌, ◌==◌, List, [], ◌∷◌, ◌++◌, length, get_or, take, drop, refl, sym, ◌∙◌, ap, subst, if◌then◌else◌, arith}
-use Rattle.std.specs.Prelude.{nat_lt}
+use Rattle.std.proofs.Common.{◌≡◌, ℕ, zero, suc, ◌+◌, ◌-◌, ◌*◌, ◌^◌, ◌<◌, ◌≤◌, min, Bool, true, false, ◌&&◌, ◌==◌, List, [], ◌∷◌, ◌++◌, length, get_or, take, refl, sym, ◌∙◌, ap, subst, if◌then◌else◌, arith}
+use Rattle.std.specs.Prelude.{not}
 use Rattle.std.specs.Char.{digit_value}
 use Rattle.std.specs.Str.Parse.{digits_value, digits_value_after}
 use Rattle.std.proofs.Math.Nat.{pow-suc, mul-le-mul_left}
@@ -57,16 +57,10 @@ before-nothing [] [] h = refl
 before-nothing (a ∷ first) [] h = refl
 before-nothing first (b ∷ second) h = absurd (omega arith)
 
-pub nothing-before : (first second : List ℕ) → length first ≡ 0 → 1 ≤ length second → is_before first second ≡ true
-nothing-before [] [] h k = absurd (omega arith)
-nothing-before [] (b ∷ second) h k = refl
-nothing-before (a ∷ first) second h k = absurd (omega arith)
-
-pub before-digits : (first second : List ℕ) → 1 ≤ length first → 1 ≤ length second
-    → is_before first second ≡ (nat_lt (get_or first 0 0) (get_or second 0 0) || ((get_or first 0 0 == get_or second 0 0) && is_before (drop 1 first) (drop 1 second)))
-before-digits [] second h k = absurd (omega arith)
-before-digits (a ∷ first) [] h k = absurd (omega arith)
-before-digits (a ∷ first) (b ∷ second) h k = refl
+pub nothing-left : (first second : List ℕ) (b : Bool) → length first ≡ 0 → b ≡ (length second == 0) → not b ≡ is_before first second
+nothing-left [] [] b h k = ap not k
+nothing-left [] (c ∷ second) b h k = ap not k ∙ (let more : (length (c ∷ second) == 0) ≡ false = grind (arith, nat_tests) in ap not more)
+nothing-left (a ∷ first) second b h k = absurd (omega arith)
 
 -- ---- numbers of few digits
 

@@ -69,3 +69,13 @@ is_endless_on further types base = false
 abbrev pub is_endless : ℕ → List Restriction → Option NamedType → Bool
 is_endless zero types base = true
 is_endless (suc most) types base = is_endless_on (is_endless most types) types base
+
+-- ---- what a base names
+
+abbrev pub built_in_at : Option NamedType → Option SimpleType
+built_in_at (Some (BuiltIn type)) = Some type
+built_in_at base = None
+
+abbrev pub declared_at : List Restriction → Option NamedType → Option Restriction
+declared_at types (Some (Declared n)) = slice_get types n
+declared_at types base = None

@@ -1,7 +1,7 @@
 //! Types by their names, and the types that they restrict.
 
-ghost use Rattle.std.specs.Prelude.{◌≡◌};
-ghost use Rattle.xf_schema.specs.Types.{declared, end_of, is_endless, is_named, type_called};
+ghost use Rattle.std.specs.Prelude.{◌≡◌, option_map};
+ghost use Rattle.xf_schema.specs.Types.{built_in_at, declared, declared_at, end_of, is_endless, is_named, type_called};
 
 use crate::written::{NamedType, Restriction, TypeName};
 use xf_types::{SimpleType, named};
@@ -45,33 +45,50 @@ pub(crate) fn end_of(
 ) -> Option<SimpleType>
     ensures { result ≡ end_of most types.now base }
 {
-    if most == 0 {
-        return None;
+    let mut left = most;
+    let mut further = base;
+    while left > 0 {
+        let Some(restriction) = declared_at(types, further) else {
+            return built_in_at(further);
+        };
+        left -= 1;
+        further = restriction.base;
     }
-    let Some(named) = base else {
-        return None;
-    };
-    match named {
-        NamedType::BuiltIn(kind) => Some(kind),
-        NamedType::Declared(number) => match types.get(number) {
-            Some(restriction) => end_of(types, most - 1, restriction.base),
-            None => None,
-        },
-    }
+    None
 }
 
 /// Whether the bases have no end, past so many types.
 pub(crate) fn is_endless(types: &[Restriction], most: usize, base: Option<NamedType>) -> bool
     ensures { result ≡ is_endless most types.now base }
 {
-    if most == 0 {
-        return true;
+    let mut left = most;
+    let mut further = base;
+    while left > 0 {
+        let Some(restriction) = declared_at(types, further) else {
+            return false;
+        };
+        left -= 1;
+        further = restriction.base;
     }
+    true
+}
+
+/// The built-in type that a base names, where it names one.
+fn built_in_at(base: Option<NamedType>) -> Option<SimpleType>
+    ensures { result ≡ built_in_at base }
+{
     match base {
-        Some(NamedType::Declared(number)) => match types.get(number) {
-            Some(restriction) => is_endless(types, most - 1, restriction.base),
-            None => false,
-        },
-        _ => false,
+        Some(NamedType::BuiltIn(kind)) => Some(kind),
+        _ => None,
+    }
+}
+
+/// The restriction that a base names, where it names one of these types.
+pub(crate) fn declared_at(types: &[Restriction], base: Option<NamedType>) -> Option<&Restriction>
+    ensures { option_map (λ r. r.now) result ≡ declared_at types.now base }
+{
+    match base {
+        Some(NamedType::Declared(number)) => types.get(number),
+        _ => None,
     }
 }

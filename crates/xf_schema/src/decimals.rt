@@ -112,16 +112,19 @@ fn without_last_zeros(digits: &[u8]) -> &[u8]
 fn is_before(first: &[u8], second: &[u8]) -> bool
     ensures { result ≡ decimals.is_before first.now second.now }
 {
-    if second.is_empty() {
-        return false;
+    let mut left = first;
+    let mut right = second;
+    while !left.is_empty() {
+        if right.is_empty() {
+            return false;
+        }
+        if left[0] != right[0] {
+            return left[0] < right[0];
+        }
+        left = &left[1..];
+        right = &right[1..];
     }
-    if first.is_empty() {
-        return true;
-    }
-    if first[0] < second[0] {
-        return true;
-    }
-    first[0] == second[0] && is_before(&first[1..], &second[1..])
+    !right.is_empty()
 }
 
 fn is_smaller_whole(first: &[u8], second: &[u8]) -> bool

@@ -24,13 +24,12 @@ pub(crate) fn meets_restriction(kind: BuiltIn, text: &str, restriction: &Restric
 fn meets_each(kind: BuiltIn, text: &str, facets: &[Facet]) -> bool
     ensures { result ≡ list_all (λ f. meets_facet kind f.kind f.value text.now) facets.now }
 {
-    if facets.is_empty() {
-        return true;
+    for facet in facets {
+        if !meets_facet(kind, facet, text) {
+            return false;
+        }
     }
-    if !meets_facet(kind, &facets[0], text) {
-        return false;
-    }
-    meets_each(kind, text, &facets[1..])
+    true
 }
 
 fn meets_facet(kind: BuiltIn, facet: &Facet, text: &str) -> bool
@@ -157,26 +156,23 @@ fn meets_enumerations(kind: BuiltIn, text: &str, facets: &[Facet]) -> bool
 fn has_enumeration(facets: &[Facet]) -> bool
     ensures { result ≡ list_any (λ f. is_enumeration f.kind) facets.now }
 {
-    if facets.is_empty() {
-        return false;
+    for facet in facets {
+        if is_enumeration(facet.kind) {
+            return true;
+        }
     }
-    if is_enumeration(facets[0].kind) {
-        return true;
-    }
-    has_enumeration(&facets[1..])
+    false
 }
 
 fn is_enumerated(kind: BuiltIn, text: &str, facets: &[Facet]) -> bool
     ensures { result ≡ list_any (λ f. is_enumeration f.kind && is_equal kind f.value text.now) facets.now }
 {
-    if facets.is_empty() {
-        return false;
+    for facet in facets {
+        if is_enumeration(facet.kind) && is_equal(kind, facet.value.as_str(), text) {
+            return true;
+        }
     }
-    let facet = &facets[0];
-    if is_enumeration(facet.kind) && is_equal(kind, facet.value.as_str(), text) {
-        return true;
-    }
-    is_enumerated(kind, text, &facets[1..])
+    false
 }
 
 fn is_enumeration(kind: FacetKind) -> bool
@@ -213,13 +209,12 @@ pub(crate) fn own_space(restriction: &Restriction) -> Option<Space>
 fn space_among(facets: &[Facet]) -> Option<Space>
     ensures { result ≡ space_in (find (λ f. is_white_space f.kind) facets.now) }
 {
-    if facets.is_empty() {
-        return None;
+    for facet in facets {
+        if is_white_space(facet.kind) {
+            return space_named(facet.value.as_str());
+        }
     }
-    if is_white_space(facets[0].kind) {
-        return space_named(facets[0].value.as_str());
-    }
-    space_among(&facets[1..])
+    None
 }
 
 fn is_white_space(kind: FacetKind) -> bool

@@ -5,7 +5,7 @@ ghost use Rattle.std.specs.List.{list_all};
 ghost use Rattle.xf_schema.specs.Facets.{meets_restriction, meets_type_of, meets_under, nearest_space, space_on};
 ghost use Rattle.xf_schema.specs.Types.{way};
 
-use crate::bases::end_of;
+use crate::bases::{declared_at, end_of};
 use crate::facets::{meets_restriction, own_space};
 use crate::spaces::{Space, under, usual_space};
 use crate::written::{NamedType, Restriction};
@@ -46,19 +46,20 @@ fn space_of(types: &[Restriction], restriction: &Restriction, kind: BuiltIn) -> 
 fn space_along(types: &[Restriction], most: usize, base: Option<NamedType>) -> Option<Space>
     ensures { result ≡ nearest_space (way most types.now base) }
 {
-    if most == 0 {
-        return None;
+    let mut left = most;
+    let mut further = base;
+    while left > 0 {
+        let Some(restriction) = declared_at(types, further) else {
+            return None;
+        };
+        let own = own_space(restriction);
+        if own.is_some() {
+            return own;
+        }
+        left -= 1;
+        further = restriction.base;
     }
-    match base {
-        Some(NamedType::Declared(number)) => match types.get(number) {
-            Some(restriction) => match own_space(restriction) {
-                Some(own) => Some(own),
-                None => space_along(types, most - 1, restriction.base),
-            },
-            None => None,
-        },
-        _ => None,
-    }
+    None
 }
 
 /// Whether a text under its rule meets the built-in type at the end, and each restriction on the way.
@@ -89,17 +90,17 @@ fn meets_along(
 ) -> bool
     ensures { result ≡ list_all (meets_restriction kind text.now) (way most types.now base) }
 {
-    if most == 0 {
-        return true;
+    let mut left = most;
+    let mut further = base;
+    while left > 0 {
+        let Some(restriction) = declared_at(types, further) else {
+            return true;
+        };
+        if !meets_restriction(kind, text, restriction) {
+            return false;
+        }
+        left -= 1;
+        further = restriction.base;
     }
-    match base {
-        Some(NamedType::Declared(number)) => match types.get(number) {
-            Some(restriction) => {
-                meets_restriction(kind, text, restriction)
-                    && meets_along(types, most - 1, restriction.base, kind, text)
-            }
-            None => true,
-        },
-        _ => true,
-    }
+    true
 }

@@ -16,13 +16,13 @@ pub(crate) fn first_bad_from(types: &[Restriction], number: usize) -> Option<u32
     requires { number ≤ length types.now }
     ensures { result ≡ faults.first_bad_from types.now number (drop number types.now) }
 {
-    if number == types.len() {
-        return None;
+    for here in number..types.len() {
+        let bad = bad_in(types, &types[..here], &types[here]);
+        if bad.is_some() {
+            return bad;
+        }
     }
-    match bad_in(types, &types[..number], &types[number]) {
-        Some(site) => Some(site),
-        None => first_bad_from(types, number + 1),
-    }
+    None
 }
 
 /// The first bad one of a simple type, its restriction and its facets, where these types stand before it.
@@ -68,13 +68,12 @@ fn is_bad_base(types: &[Restriction], restriction: &Restriction) -> bool
 fn first_bad_facet(end: Option<SimpleType>, facets: &[Facet]) -> Option<u32>
     ensures { result ≡ faults.bad_facet_among end facets.now }
 {
-    if facets.is_empty() {
-        return None;
+    for facet in facets {
+        if is_bad_facet(end, facet) {
+            return Some(facet.place);
+        }
     }
-    if is_bad_facet(end, &facets[0]) {
-        return Some(facets[0].place);
-    }
-    first_bad_facet(end, &facets[1..])
+    None
 }
 
 /// Whether a facet is bad, where the bases end in this type.

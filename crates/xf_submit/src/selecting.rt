@@ -157,11 +157,10 @@ fn push_if_left<M: NodeMarks>(
 fn first_invalid<M: NodeMarks>(marks: &M, nodes: &[NodeId]) -> Option<NodeId>
     ensures { option_map (λ n. n.number) result ≡ find (λ m. not (valid_by (M.marks_of marks.now) m)) (map (λ n. n.number) nodes.now) }
 {
-    if nodes.is_empty() {
-        return None;
+    for node in nodes {
+        if !marks.marks(*node).valid {
+            return Some(*node);
+        }
     }
-    if !marks.marks(nodes[0]).valid {
-        return Some(nodes[0]);
-    }
-    first_invalid(marks, &nodes[1..])
+    None
 }

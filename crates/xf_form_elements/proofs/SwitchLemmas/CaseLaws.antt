@@ -1,7 +1,7 @@
 -- Cases by the sort of an element, and by that of the element around.
-use Rattle.std.proofs.Common.{◌≡◌, ℕ, ◌-◌, ◌<◌, Bool, true, false, cond, List, [], ◌∷◌, length, take, drop, Some, None, refl, sym, ap, ◌∙◌, get_or, arith}
+use Rattle.std.proofs.Common.{◌≡◌, ℕ, ◌+◌, ◌<◌, Bool, true, false, cond, List, [], ◌∷◌, length, drop, Some, None, refl, sym, ap, ◌∙◌, get_or}
 use Rattle.std.specs.Prelude.{◌==◌, if◌then◌else◌}
-use Rattle.std.proofs.Math.Seq.{take-length}
+use Rattle.std.proofs.lemmas.List.{drop_more}
 use Rattle.xf_def_syntax.specs.declared.element.Part.{Part}
 use Rattle.xf_def_syntax.specs.declared.element.Part.TheVariants as part
 use Rattle.xf_def_ui.specs.Cases.{if_case, is_case, is_case_of, is_case_sort, is_selected, place_of_case}
@@ -92,8 +92,5 @@ skips f (part.Element n) ps h = by (is_case f n) h
     by true e = cc e
     by false e = refl
 
-pub none-first : (f : Interface) (ps : List Part) (p : Part) → 0 < length ps → p ≡ get_or ps 0 p → None ≡ own_case f p → cases_among f (take (length ps - 1) (drop 1 ps)) ≡ cases_among f ps
-none-first f [] p l e h = absurd (omega (arith, l))
-none-first f (q ∷ ps) p l e h =
-    let less : length (q ∷ ps) - 1 ≡ length ps = omega arith in
-    ap (λ k. cases_among f (take k ps)) less ∙ ap (cases_among f) (take-length ps) ∙ sym (skips f p ps h) ∙ ap (λ x. cases_among f (x ∷ ps)) e
+pub no-case-at : (f : Interface) (ps : List Part) (i : ℕ) (p : Part) → i < length ps → p ≡ get_or ps i p → None ≡ own_case f p → cases_among f (drop i ps) ≡ cases_among f (drop (i + 1) ps)
+no-case-at f ps i p l e h = ap (cases_among f) (drop_more ps i p l ∙ ap (λ x. x ∷ drop (i + 1) ps) (sym e)) ∙ skips f p (drop (i + 1) ps) h

@@ -20,16 +20,17 @@ fn place_among(form: &Form, parts: &[Part], case: u32) -> usize
     ensures place { result ≡ position_or_len (λ m. m == case) (cases_among (interface_of form.now) parts.now) }
     ensures within { result ≤ length parts.now }
 {
-    if parts.is_empty() {
-        return 0;
+    let mut place = 0;
+    for part in parts {
+        let Some(one) = case_in(form, part) else {
+            continue;
+        };
+        if one == case {
+            return place;
+        }
+        place += 1;
     }
-    let Some(one) = case_in(form, &parts[0]) else {
-        return place_among(form, &parts[1..], case);
-    };
-    if one == case {
-        return 0;
-    }
-    1 + place_among(form, &parts[1..], case)
+    place
 }
 
 /// The case at a place of the switch of this number: 0 where there is none.
@@ -59,16 +60,17 @@ fn element_of(switches: &ElementList, switch: u32) -> u32
 pub(crate) fn case_among(form: &Form, parts: &[Part], place: usize) -> u32
     ensures { result ≡ get_or (cases_among (interface_of form.now) parts.now) place 0 }
 {
-    if parts.is_empty() {
-        return 0;
+    let mut left = place;
+    for part in parts {
+        let Some(one) = case_in(form, part) else {
+            continue;
+        };
+        if left == 0 {
+            return one;
+        }
+        left -= 1;
     }
-    let Some(one) = case_in(form, &parts[0]) else {
-        return case_among(form, &parts[1..], place);
-    };
-    if place == 0 {
-        return one;
-    }
-    case_among(form, &parts[1..], place - 1)
+    0
 }
 
 /// The part as a case.

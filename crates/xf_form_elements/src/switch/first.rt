@@ -24,12 +24,10 @@ pub fn first_cases(alloc: Global, form: &Form) -> Result<Vec<usize>, AllocError>
 fn push_first(form: &Form, switches: &[u32], cases: &mut Vec<usize>) -> Result<(), AllocError>
     ensures { OnOk result (cases.new.items ≡ cases.old.items ++ map (λ n. ui.place_of_case (interface_of form.now) n (ui.first_case (interface_of form.now) n)) switches.now) }
 {
-    if switches.is_empty() {
-        return Ok(());
+    for element in switches {
+        cases.push(place_at_first(form, *element))?;
     }
-    let element = switches[0];
-    cases.push(place_at_first(form, element))?;
-    push_first(form, &switches[1..], cases)
+    Ok(())
 }
 
 fn place_at_first(form: &Form, element: u32) -> usize
@@ -52,16 +50,15 @@ fn first_case(form: &Form, element: u32) -> u32
 fn written_among(form: &Form, parts: &[Part]) -> Option<u32>
     ensures { result ≡ find (λ m. ui.is_written_selected (element_at (interface_of form.now) m).sort) (cases_among (interface_of form.now) parts.now) }
 {
-    if parts.is_empty() {
-        return None;
+    for part in parts {
+        let Some(case) = case_in(form, part) else {
+            continue;
+        };
+        if is_written_selected(form, case) {
+            return Some(case);
+        }
     }
-    let Some(case) = case_in(form, &parts[0]) else {
-        return written_among(form, &parts[1..]);
-    };
-    if is_written_selected(form, case) {
-        return Some(case);
-    }
-    written_among(form, &parts[1..])
+    None
 }
 
 fn is_written_selected(form: &Form, case: u32) -> bool
