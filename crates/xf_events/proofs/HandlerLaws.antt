@@ -1,8 +1,8 @@
 -- Handlers that are found one after the other.
-use Rattle.std.proofs.Common.{◌≡◌, ℕ, suc, ◌<◌, ◌-◌, Bool, true, false, cond, List, [], ◌∷◌, ◌++◌, map, length, take, drop, get_or, refl, sym, ap, ◌∙◌, subst, append_assoc, length-drop, arith}
-use Rattle.std.specs.Prelude.{◌||◌, filter, reverse, if◌then◌else◌}
+use Rattle.std.proofs.Common.{◌≡◌, ℕ, suc, ◌+◌, ◌<◌, ◌-◌, Bool, true, false, cond, List, [], ◌∷◌, ◌++◌, map, length, take, drop, get_or, refl, sym, ap, ◌∙◌, subst, append_assoc, length-drop, arith}
+use Rattle.std.specs.Prelude.{◌&&◌, ◌||◌, filter, reverse, if◌then◌else◌}
 use Rattle.std.specs.List.{flat_map, list_any}
-use Rattle.std.proofs.lemmas.List.{append-nil, map-append, reverse-append, take_all}
+use Rattle.std.proofs.lemmas.List.{append-nil, drop_more, map-append, reverse-append, take_all}
 use Rattle.std.proofs.lemmas.List.Elements.{filter-append}
 use Rattle.xf_def_syntax.specs.declared.action.Handler.{Handler}
 use Rattle.xf_def_syntax.specs.declared.action.Phase.{Phase}
@@ -10,12 +10,14 @@ use Rattle.xf_def_syntax.specs.declared.action.Phase.TheVariants.{Capture, Defau
 use Rattle.xf_def_syntax.specs.declared.element.Element.{Element}
 use Rattle.xf_def_syntax.specs.declared.form.Tables.{Tables}
 use Rattle.xf_def_syntax.specs.Ordered.{numbered_from}
-use Rattle.xf_def_ui.specs.Calls.{Event, handlers_of, heard_at, hears, reached, stops}
+use Rattle.xf_def_ui.specs.Calls.{Event, handlers, handlers_of, heard_at, hears, is_element, is_phase, may_have, reached, stops}
 use Rattle.xf_def_ui.specs.Elements.{ancestors, path_to}
 use Rattle.xf_def_ui.specs.Interface.{Interface, element_of, sort_of}
 use Rattle.xf_events.specs.declared.handlers.Stage.{Stage}
 use Rattle.xf_events.specs.declared.handlers.Stop.{Stop}
-use Rattle.xf_events.specs.Handlers.{Adds, IsWay, Reaches, cancels, heard_from, heard_in, none_yet, one_where, stages_at, stops_at}
+use Rattle.xf_events.specs.declared.listeners.Listener.{Listener}
+use Rattle.xf_events.specs.Handlers.{Adds, IsWay, Reaches, cancels, none_yet, one_where, stages_at, stops_at}
+use Rattle.xf_events.specs.Listeners.{is_named, named_from, named_in, seen_listener}
 
 -- ---- truths
 
@@ -56,17 +58,52 @@ adds-then a b c hs ks one other = record {
   cancels = other.cancels ∙ ap (λ t. t || cancels ks) one.cancels ∙ or-more a.cancels (cancels hs) (cancels ks) ∙ ap (λ t. a.cancels || t) (sym (any-append (λ h. h.1.cancels) hs ks));
 }
 
-pub heard-more : (e : Event) (phase : Phase) (observer n : ℕ) (tables : Tables) (x : Element) (xs : List Element)
-    → heard_from e phase observer n tables (x ∷ xs) ≡ heard_in e phase observer n (sort_of x.kind) ++ heard_from e phase observer (suc n) tables xs
-heard-more e phase observer n tables x xs =
-    filter-append (λ (h : ℕ × Handler). hears e phase observer h.1) (handlers_of n (sort_of x.kind)) (flat_map (λ y. handlers_of y.0 y.1.sort) (numbered_from (suc n) (map (element_of tables) xs)))
+-- ---- the handlers of one name
 
-pub one-heard : (e : Event) (phase : Phase) (observer n : ℕ) (h : Handler) → filter (λ (k : ℕ × Handler). hears e phase observer k.1) ((n, h) ∷ []) ≡ one_where (hears e phase observer h) (n, h)
-one-heard e phase observer n h = by (hears e phase observer h)
+filter-more : (p : ℕ × Handler → Bool) (x : ℕ × Handler) (xs : List (ℕ × Handler)) → filter p (x ∷ xs) ≡ one_where (p x) x ++ filter p xs
+filter-more p x xs = by (p x)
   where
-    by : (b : Bool) → cond b ((n, h) ∷ []) [] ≡ one_where b (n, h)
+    by : (b : Bool) → cond b (x ∷ filter p xs) (filter p xs) ≡ one_where b x ++ filter p xs
     by true = refl
     by false = refl
+
+-- one more of them
+pub adds-next : (p : ℕ × Handler → Bool) (old mid new : Stage) (some : List Listener) (i : ℕ) (x : Listener) → i < length some → x ≡ get_or some i x
+    → Adds old mid (one_where (p (seen_listener x)) (seen_listener x)) → Adds mid new (filter p (map seen_listener (drop (i + 1) some))) → Adds old new (filter p (map seen_listener (drop i some)))
+adds-next p old mid new some i x l is one rest =
+    let later = map seen_listener (drop (i + 1) some) in
+    subst (λ xs. Adds old new (filter p (map seen_listener xs))) (sym (drop_more some i x l ∙ ap (λ y. y ∷ drop (i + 1) some) (sym is)))
+    (subst (Adds old new) (sym (filter-more p (seen_listener x) later)) (adds-then old mid new (one_where (p (seen_listener x)) (seen_listener x)) (filter p later) one rest))
+
+-- where all that pass the first test pass the second
+module _ (p q : ℕ × Handler → Bool) (only : (h : ℕ × Handler) → q h ≡ false → p h ≡ false) where
+  keeps : (h : ℕ × Handler) (hs rest : List (ℕ × Handler)) (b : Bool) → q h ≡ b → filter p rest ≡ filter p hs → filter p (cond b (h ∷ rest) rest) ≡ filter p (h ∷ hs)
+  keeps h hs rest true e same = ap (λ l. cond (p h) (h ∷ l) l) same
+  keeps h hs rest false e same = same ∙ sym (ap (λ b. cond b (h ∷ filter p hs) (filter p hs)) (only h e))
+
+  of-those : (hs : List (ℕ × Handler)) → filter p (filter q hs) ≡ filter p hs
+  of-those [] = refl
+  of-those (h ∷ hs) = keeps h hs (filter q hs) (q h) refl (of-those hs)
+
+-- what hears an event is a handler of its name
+pub heard-of-named : (f : Interface) (e : Event) (phase : Phase) (observer : ℕ) (hs : List (ℕ × Handler)) → hs ≡ filter (is_named e.name) (handlers f)
+    → filter (λ (h : ℕ × Handler). hears e phase observer h.1) hs ≡ heard_at f e phase observer
+heard-of-named f e phase observer hs is =
+    ap (filter (λ (h : ℕ × Handler). hears e phase observer h.1)) is
+    ∙ of-those (λ (h : ℕ × Handler). hears e phase observer h.1) (is_named e.name)
+    (λ h other. ap (λ b. b && is_element h.1.observer observer && is_phase h.1.phase phase && may_have h.1.target e.target) other) (handlers f)
+
+-- those of one element more
+pub named-next : (name : List ℕ) (n i : ℕ) (tables : Tables) (es : List Element) (x : Element) (old new : List (ℕ × Handler)) → i < length es → x ≡ get_or es i x
+    → new ≡ old ++ named_in name n (sort_of x.kind) → new ++ named_from name (n + 1) tables (drop (i + 1) es) ≡ old ++ named_from name n tables (drop i es)
+named-next name n i tables es x old new l is more =
+    let rest = named_from name (n + 1) tables (drop (i + 1) es) in
+    let next : n + 1 ≡ suc n = omega arith in
+    ap (λ hs. hs ++ rest) more ∙ append_assoc old (named_in name n (sort_of x.kind)) rest
+    ∙ ap (λ hs. old ++ hs)
+    (ap (λ k. named_in name n (sort_of x.kind) ++ named_from name k tables (drop (i + 1) es)) next
+    ∙ sym (filter-append (is_named name) (handlers_of n (sort_of x.kind)) (flat_map (λ y. handlers_of y.0 y.1.sort) (numbered_from (suc n) (map (element_of tables) (drop (i + 1) es)))))
+    ∙ sym (ap (named_from name n tables) (drop_more es i x l ∙ ap (λ y. y ∷ drop (i + 1) es) (sym is))))
 
 -- ---- the way
 
@@ -106,15 +143,6 @@ list-first (y ∷ ys) x h e = ap (λ z. z ∷ ys) (sym e)
 
 pub rest-is : {X : Type 0} (xs : List X) → take (length xs - 1) (drop 1 xs) ≡ drop 1 xs
 rest-is xs = take_all (length xs - 1) (drop 1 xs) (omega (arith, length-drop 1 xs))
-
-pub adds-first : (old mid new : Stage) (e : Event) (phase : Phase) (observer n k : ℕ) (tables : Tables) (xs sub : List Element) (x : Element)
-    → 0 < length xs → x ≡ get_or xs 0 x → k ≡ suc n → sub ≡ drop 1 xs → Adds old mid (heard_in e phase observer n (sort_of x.kind)) → Adds mid new (heard_from e phase observer k tables sub)
-    → Adds old new (heard_from e phase observer n tables xs)
-adds-first old mid new e phase observer n k tables xs sub x h i q s one other =
-    subst (λ l. Adds old new (heard_from e phase observer n tables l)) (sym (list-first xs x h i))
-    (subst (Adds old new) (sym (heard-more e phase observer n tables x (drop 1 xs)))
-    (adds-then old mid new (heard_in e phase observer n (sort_of x.kind)) (heard_from e phase observer (suc n) tables (drop 1 xs)) one
-    (subst (λ j. Adds mid new (heard_from e phase observer j tables (drop 1 xs))) q (subst (λ l. Adds mid new (heard_from e phase observer k tables l)) s other))))
 
 -- ---- what is reached
 

@@ -1,23 +1,12 @@
 -- The handlers that an event calls, found one after the other (DOM Level 2 Events, section 1.2).
-use Rattle.std.specs.Prelude.{ℕ, ◌≡◌, Bool, false, ◌||◌, List, [], ◌∷◌, ◌++◌, map, filter, if◌then◌else◌}
-use Rattle.std.specs.List.{list_any, flat_map}
+use Rattle.std.specs.Prelude.{ℕ, ◌≡◌, Bool, false, ◌||◌, List, [], ◌∷◌, ◌++◌, map, if◌then◌else◌}
+use Rattle.std.specs.List.{list_any}
 use Rattle.xf_def_syntax.specs.declared.action.Handler.{Handler}
 use Rattle.xf_def_syntax.specs.declared.action.Phase.{Phase}
-use Rattle.xf_def_syntax.specs.declared.element.Element.{Element}
-use Rattle.xf_def_syntax.specs.declared.form.Tables.{Tables}
-use Rattle.xf_def_syntax.specs.Ordered.{numbered_from}
-use Rattle.xf_def_ui.specs.Calls.{Event, handlers_of, heard_at, hears, stages, stops}
-use Rattle.xf_def_ui.specs.Interface.{Interface, Sort, element_of}
+use Rattle.xf_def_ui.specs.Calls.{Event, heard_at, stages, stops}
+use Rattle.xf_def_ui.specs.Interface.{Interface}
 use Rattle.xf_events.specs.declared.handlers.Stage.{Stage}
 use Rattle.xf_events.specs.declared.handlers.Stop.{Stop}
-
--- those of one element, and of these elements, of which the first has the number, that hear an event at an observer
-abbrev pub heard_in : Event → Phase → ℕ → ℕ → Sort → List (ℕ × Handler)
-heard_in e phase observer n sort = filter (λ h. hears e phase observer h.1) (handlers_of n sort)
-
-abbrev pub heard_from : Event → Phase → ℕ → ℕ → Tables → List Element → List (ℕ × Handler)
-heard_from e phase observer n tables es =
-    filter (λ h. hears e phase observer h.1) (flat_map (λ x. handlers_of x.0 x.1.sort) (numbered_from n (map (element_of tables) es)))
 
 abbrev pub cancels : List (ℕ × Handler) → Bool
 cancels hs = list_any (λ h. h.1.cancels) hs

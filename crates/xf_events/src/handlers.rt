@@ -1,16 +1,17 @@
 //! The handlers that an event calls (DOM Level 2 Events, section 1.2; XML Events, section 3).
 
-ghost use Rattle.std.specs.Prelude.{◌≡◌, ◌++◌, ◌||◌, reverse, IfOk, OnOk};
-ghost use Rattle.xf_def_syntax.specs.declared.form.Tables.{Tables};
-ghost use Rattle.xf_def_ui.specs.Calls.{calls as called_by, hears, is_element, is_phase, may_have, reached};
-ghost use Rattle.xf_def_ui.specs.Interface.{interface_of, sort_of};
+ghost use Rattle.std.specs.Prelude.{◌≡◌, ◌++◌, ◌||◌, filter, map, reverse, IfOk, OnOk};
+ghost use Rattle.xf_def_ui.specs.Calls.{calls as called_by, handlers as all_handlers, hears, is_element, is_phase, may_have, reached};
+ghost use Rattle.xf_def_ui.specs.Interface.{Interface, interface_of};
 ghost use Rattle.xf_actions.specs.Seen.{fired_of};
 ghost use Rattle.xf_events.specs.Handlers as handlers;
+ghost use Rattle.xf_events.specs.Listeners.{is_named, seen_listener};
 
+use crate::listeners::{Listener, listeners_among};
 use std::alloc::{AllocError, Global};
 use xf_actions::Fired;
 use xf_base::Items;
-use xf_def_syntax::{Element, ElementList, Form, Handler, Kind, Phase};
+use xf_def_syntax::{ElementList, Form, Handler, Phase};
 use xf_def_ui::CallList;
 use xf_form_elements::ancestors;
 
@@ -35,9 +36,10 @@ pub(crate) struct Stop {
 pub fn called(alloc: Global, form: &Form, fired: &Fired) -> Result<CallList, AllocError>
     ensures { IfOk result (λ list. list ≡ called_by (interface_of form.now) (fired_of fired.now).event) }
 {
+    let named = listeners_among(alloc, form.elements.as_slice(), fired.name.as_str())?;
     let way = way_of(alloc, form, fired)?;
     let mut all = empty(alloc);
-    push_reached(alloc, form, fired, way.as_slice(), &mut all)?;
+    push_reached(alloc, named.as_slice(), fired, way.as_slice(), &mut all)?;
     Ok(CallList {
         handlers: all.handlers,
         with_default: !(fired.is_cancelable && all.cancels),
@@ -100,67 +102,43 @@ fn push_up(way: &mut Vec<Stop>, around: &[u32]) -> Result<(), AllocError>
     push_up(way, &around[1..])
 }
 
-/// The handlers at these stops, as far as the first stop at which one of them stops the event.
+/// The handlers at these stops, as far as the first stop at which one of them stops the event, where these are the handlers of its name.
 fn push_reached(
     alloc: Global,
-    form: &Form,
+    named: &[Listener<'_>],
     fired: &Fired,
     way: &[Stop],
     all: &mut Stage,
 ) -> Result<(), AllocError>
-    ensures { OnOk result (handlers.Reaches all.old all.new (reached (handlers.stages_at (interface_of form.now) (fired_of fired.now).event way.now))) }
+    ensures { OnOk result ((interface : Interface) → map seen_listener named.now ≡ filter (is_named (fired_of fired.now).event.name) (all_handlers interface) → handlers.Reaches all.old all.new (reached (handlers.stages_at interface (fired_of fired.now).event way.now))) }
 {
     if way.is_empty() {
         return Ok(());
     }
     let mut own = empty(alloc);
-    push_heard(form.elements.as_slice(), 0, fired, way[0], &mut own)?;
+    push_heard(named, fired, way[0], &mut own)?;
     let stops = own.stops;
     all.cancels = either(all.cancels, own.cancels);
     all.handlers.append(own.handlers)?;
     if stops {
         return Ok(());
     }
-    push_reached(alloc, form, fired, &way[1..], all)
+    push_reached(alloc, named, fired, &way[1..], all)
 }
 
-/// The handlers among these elements, of which the first has the number, that hear an event at a stop.
+/// Those of some handlers that hear an event at a stop.
 fn push_heard(
-    elements: &[Element],
-    number: u32,
+    some: &[Listener<'_>],
     fired: &Fired,
     stop: Stop,
     all: &mut Stage,
 ) -> Result<(), AllocError>
-    ensures { OnOk result ((tables : Tables) → handlers.Adds all.old all.new (handlers.heard_from (fired_of fired.now).event stop.phase stop.observer number tables elements.now)) }
+    ensures { OnOk result (handlers.Adds all.old all.new (filter (λ h. hears (fired_of fired.now).event stop.phase stop.observer h.1) (map seen_listener some.now))) }
 {
-    if elements.is_empty() {
-        return Ok(());
+    for listener in some {
+        push_handler(listener.handler, listener.element, fired, stop, all)?;
     }
-    push_own(&elements[0], number, fired, stop, all)?;
-    if number == u32::MAX {
-        // No form has so many elements.
-        return Err(AllocError);
-    }
-    push_heard(&elements[1..], number + 1, fired, stop, all)
-}
-
-fn push_own(
-    element: &Element,
-    number: u32,
-    fired: &Fired,
-    stop: Stop,
-    all: &mut Stage,
-) -> Result<(), AllocError>
-    ensures { OnOk result (handlers.Adds all.old all.new (handlers.heard_in (fired_of fired.now).event stop.phase stop.observer number (sort_of element.now.kind))) }
-{
-    match &element.kind {
-        Kind::Action(action) => match &action.handler {
-            Some(handler) => push_handler(handler, number, fired, stop, all),
-            None => Ok(()),
-        },
-        _ => Ok(()),
-    }
+    Ok(())
 }
 
 fn push_handler(

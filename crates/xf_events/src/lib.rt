@@ -6,6 +6,7 @@ mod changed;
 mod elements;
 mod handlers;
 mod inner;
+mod listeners;
 mod notes;
 mod telling;
 
