@@ -1,6 +1,7 @@
 -- The roots of a forest by their places among the instances.
-use Rattle.std.proofs.Common.{◌≡◌, ℕ, zero, suc, ◌==◌, Bool, true, false, not, cond, ◌&&◌, List, [], ◌∷◌, Option, Some, None, option_map, refl, sym, ap, ◌∙◌, arith}
-use Rattle.std.proofs.lemmas.Bool.{eqb-true}
+use Rattle.std.proofs.Common.{◌≡◌, ◌≤◌, ◌<◌, ◌+◌, ℕ, zero, suc, ◌==◌, Bool, true, false, not, cond, ◌&&◌, List, [], ◌∷◌, Option, Some, None, option_map, refl, sym, ap, ◌∙◌, arith}
+use Rattle.std.proofs.Math.Dec.{ltb}
+use Rattle.std.proofs.lemmas.Bool.{eq-eqb, eqb-true, ltb-true, ltb-false}
 use Rattle.std.proofs.lemmas.Bool.Decides.{nat_tests}
 use Rattle.xf_def_forest.specs.declared.content.Node.{Node}
 use Rattle.xf_def_forest.specs.Forest.{is_root, has_number}
@@ -86,3 +87,60 @@ no-root (suc place) m (x ∷ xs) e = by (no-root place m xs) (no-root (suc place
     by : (root_of place xs ≡ None → is_place place (instance_of m xs) ≡ false) → (root_of (suc place) xs ≡ None → is_place (suc place) (instance_of m xs) ≡ false) → (b : Bool) → cond b (root_of place xs) (root_of (suc place) xs) ≡ None → is_place (suc place) (cond b (cond (x.number == m) (Some 0) (option_map suc (instance_of m xs))) (instance_of m xs)) ≡ false
     by past same true i = here past (x.number == m) i
     by past same false i = same i
+
+-- behind a place without a root there is none
+pub none-behind : (place later : ℕ) (nodes : List Node) → place ≤ later → root_of place nodes ≡ None → root_of later nodes ≡ None
+none-behind place later [] h e = refl
+none-behind zero zero (x ∷ xs) h e = e
+none-behind zero (suc later) (x ∷ xs) h e = by (is_root x.content) e (λ i. none-behind zero (suc later) xs h i)
+  where
+    by : (b : Bool) → cond b (Some x.number) (root_of zero xs) ≡ None → (root_of zero xs ≡ None → root_of (suc later) xs ≡ None) → cond b (root_of later xs) (root_of (suc later) xs) ≡ None
+    by true i more = none-some (sym i)
+    by false i more = more i
+none-behind (suc place) zero (x ∷ xs) h e = absurd (omega (arith, h))
+none-behind (suc place) (suc later) (x ∷ xs) h e = by (is_root x.content) e (λ i. none-behind place later xs (omega (arith, h)) i) (λ i. none-behind (suc place) (suc later) xs h i)
+  where
+    by : (b : Bool) → cond b (root_of place xs) (root_of (suc place) xs) ≡ None → (root_of place xs ≡ None → root_of later xs ≡ None)
+        → (root_of (suc place) xs ≡ None → root_of (suc later) xs ≡ None) → cond b (root_of later xs) (root_of (suc later) xs) ≡ None
+    by true i one other = one i
+    by false i one other = other i
+
+is-at : (place other : ℕ) → (place == other) ≡ true → other ≡ place
+is-at place other e = sym (eqb-true place other e)
+
+placed : (place : ℕ) (given : Option ℕ) → is_place place given ≡ true → given ≡ Some place
+placed place None e = cc e
+placed place (Some other) e = ap Some (is-at place other e)
+
+-- one more root is another one
+pub one-more : (count m : ℕ) (nodes : List Node) → ((place : ℕ) → place < count → is_place place (instance_of m nodes) ≡ false) → is_place count (instance_of m nodes) ≡ false
+    → (place : ℕ) → place < count + 1 → is_place place (instance_of m nodes) ≡ false
+one-more count m nodes before here place within = by (ltb place count) refl
+  where
+    by : (b : Bool) → ltb place count ≡ b → is_place place (instance_of m nodes) ≡ false
+    by true e = before place (ltb-true place count e)
+    by false e =
+        let l : count ≤ place = ltb-false place count e in
+        let same : place ≡ count = omega (arith, l, within) in
+        ap (λ k. is_place k (instance_of m nodes)) same ∙ here
+
+-- behind the last root a node is none
+pub none-else : (count m : ℕ) (nodes : List Node) → ((place : ℕ) → place < count → is_place place (instance_of m nodes) ≡ false) → root_of count nodes ≡ None
+    → (place : ℕ) → is_place place (instance_of m nodes) ≡ false
+none-else count m nodes before none place = by (ltb place count) refl
+  where
+    by : (b : Bool) → ltb place count ≡ b → is_place place (instance_of m nodes) ≡ false
+    by true e = before place (ltb-true place count e)
+    by false e = no-root place m nodes (none-behind count place nodes (ltb-false place count e) none)
+
+-- the root with a place is in the instance with this place
+pub root-placed : (place m root : ℕ) (nodes : List Node) → are_apart nodes ≡ true → root_of place nodes ≡ Some root → root ≡ m → instance_of m nodes ≡ Some place
+root-placed place m root nodes apart is same = placed place (instance_of m nodes) (is-root place m root nodes apart is ∙ ap (λ k. m == k) same ∙ eq-eqb m m refl)
+
+-- another node is not
+pub root-other : (place m root : ℕ) (nodes : List Node) → are_apart nodes ≡ true → root_of place nodes ≡ Some root → (root ≡ m → ⊥) → is_place place (instance_of m nodes) ≡ false
+root-other place m root nodes apart is other = is-root place m root nodes apart is ∙ differs (m == root) refl
+  where
+    differs : (b : Bool) → (m == root) ≡ b → b ≡ false
+    differs true e = absurd (other (sym (eqb-true m root e)))
+    differs false e = refl

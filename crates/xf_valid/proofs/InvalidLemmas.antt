@@ -1,13 +1,12 @@
 -- The nodes that are not valid are those of entries that are not, in the trees of the model's instances.
-use Rattle.std.proofs.Common.{◌≡◌, ℕ, zero, suc, ◌+◌, ◌<◌, ◌==◌, Bool, true, false, cond, not, ◌&&◌, ◌||◌, List, [], ◌∷◌, ◌++◌, map, filter, find, drop, length, get_or, append_assoc, append-nil, ◌≤◌, Result, Ok, Err, OnOk, Option, Some, None, option_map, option_and_then, slice_get, refl, sym, ap, ◌∙◌, arith}
-use Rattle.std.specs.List.{list_any}
+use Rattle.std.proofs.Common.{◌≡◌, ℕ, zero, suc, ◌+◌, ◌<◌, ◌==◌, Bool, true, false, cond, not, ◌&&◌, ◌||◌, List, [], ◌∷◌, ◌++◌, map, filter, find, is_some, drop, length, get_or, append_assoc, append-nil, ◌≤◌, Result, Ok, Err, OnOk, Option, Some, None, option_map, option_and_then, slice_get, refl, sym, ap, ◌∙◌, arith}
+use Rattle.std.specs.List.{flat_map, list_any}
 use Rattle.std.proofs.lemmas.Bool.{eqb-true}
 use Rattle.std.proofs.lemmas.Bool.Decides.{nat_tests}
-use Rattle.std.proofs.lemmas.Option.{slice_get-map, slice_get_read}
+use Rattle.std.proofs.lemmas.Option.{slice_get_read}
 use Rattle.xf_num.specs.Written.{is_empty}
 use Rattle.xf_schema.specs.declared.written.Restriction.{Restriction}
 use Rattle.xf_schema.specs.Facets.{is_of_type}
-use Rattle.xf_def_syntax.specs.declared.form.Bind.{Bind}
 use Rattle.xf_def_syntax.specs.declared.form.Instance.{Instance}
 use Rattle.xf_def_forest.specs.declared.content.Node.{Node}
 use Rattle.xf_def_forest.specs.Changes.{root_of}
@@ -18,16 +17,17 @@ use Rattle.xf_def_forest.specs.Visit.{Visit, visit, visits, visits_from, still_a
 use Rattle.xf_def_forest.specs.WellFormed.{are_apart}
 use Rattle.xf_def_xpath.specs.Binding.{as_list}
 use Rattle.xf_def_model.specs.declared.property.Property.{Property}
-use Rattle.xf_def_model.specs.declared.property.Property.TheVariants.{Kind, Required, Constraint}
+use Rattle.xf_def_model.specs.declared.property.Property.TheVariants.{Kind, Calculate, Relevant, Readonly, Required, Constraint}
 use Rattle.xf_def_model.specs.Applied.{Entry, is_property}
-use Rattle.xf_def_model.specs.Rules.{Rule, Scope, rule_of}
-use Rattle.xf_def_model.specs.Properties.{kind_of, meets_kind, sets_on, own}
+use Rattle.xf_def_model.specs.Rules.{Scope}
+use Rattle.xf_def_model.specs.Properties.{is_valid, kind_of, meets_kind, sets_on, own}
 use Rattle.xf_binds.specs.Held.{is_seat}
 use Rattle.xf_binds.specs.Kept.{Kept, truth_from, values_of}
 use Rattle.xf_binds.specs.Table.{truth_told}
+use Rattle.xf_binds.proofs.Finds.{any-find}
 use Rattle.xf_binds.proofs.Truths.{own-in}
-use Rattle.xf_valid.specs.Failed.{failed_among, failed_at, failed_by, is_failed, fails, kind_in, roots_from}
-use Rattle.xf_valid.specs.Invalid.{invalid_in, is_held, is_invalid, is_model, model_of}
+use Rattle.xf_valid.specs.Failed.{by_property, failed_among, failed_at, fails, is_under, roots_from}
+use Rattle.xf_valid.specs.Invalid.{invalid_in, is_invalid, is_model, model_of}
 
 none : {P : Type 0} → false ≡ true → P
 none e = cc e
@@ -59,22 +59,6 @@ and-some false = refl
 or-parts : (a b : Bool) → (a || b) ≡ false → (a ≡ false) × (b ≡ false)
 or-parts true b h = none (sym h)
 or-parts false b h = (refl, h)
-
--- ---- the type of a node
-
-pub kind-in : (scope : Scope) (binds : List Bind) (entries : List Entry) (n : ℕ) → scope.rules ≡ map rule_of binds → kind_of scope entries n ≡ kind_in binds (find (sets_on n Kind) entries)
-kind-in scope binds entries n e = by (find (sets_on n Kind) entries)
-  where
-    given : (o : Option Bind) → option_and_then (λ (r : Rule). r.kind) (option_map rule_of o) ≡ option_and_then (λ (b : Bind). b.properties.kind) o
-    given None = refl
-    given (Some b) = refl
-
-    by : (o : Option Entry) → option_and_then (λ e. option_and_then (λ r. r.kind) (slice_get scope.rules e.bind)) o ≡ kind_in binds o
-    by None = refl
-    by (Some x) =
-        ap (λ rs. option_and_then (λ (r : Rule). r.kind) (slice_get rs x.bind)) e
-        ∙ ap (option_and_then (λ (r : Rule). r.kind)) (slice_get-map rule_of binds x.bind)
-        ∙ given (slice_get binds x.bind)
 
 -- ---- roots
 
@@ -193,44 +177,94 @@ roots-held n model nodes is a = by (instance_of n nodes) refl
 
 -- ---- among the nodes of entries
 
-has-failed : (types : List Restriction) (scope : Scope) (nodes : List Node) (roots : List ℕ) (k : Kept) (n : ℕ) (es : List Entry)
-    → has n (failed_among types scope nodes roots k es) ≡ (is_failed types scope nodes roots k n && list_any (λ e. n == e.node) es)
-has-failed types scope nodes roots k n [] = sym (and-none (is_failed types scope nodes roots k n))
-has-failed types scope nodes roots k n (x ∷ xs) =
-    has-append n (failed_by types scope nodes roots k x) (failed_among types scope nodes roots k xs)
-    ∙ ap (λ b. has n (failed_by types scope nodes roots k x) || b) (has-failed types scope nodes roots k n xs)
-    ∙ by (n == x.node) refl
+has-one : (u : ℕ → Bool) (f : ℕ → Property → Bool) (n : ℕ) (es : List Entry)
+    → has n (flat_map (λ (e : Entry). cond (u e.node && f e.node e.property) (e.node ∷ []) []) es) ≡ (u n && list_any (λ (e : Entry). (n == e.node) && f n e.property) es)
+has-one u f n [] = sym (and-none (u n))
+has-one u f n (x ∷ xs) =
+    has-append n (cond (u x.node && f x.node x.property) (x.node ∷ []) []) (flat_map (λ (e : Entry). cond (u e.node && f e.node e.property) (e.node ∷ []) []) xs)
+    ∙ ap (λ b. has n (cond (u x.node && f x.node x.property) (x.node ∷ []) []) || b) (has-one u f n xs) ∙ by (n == x.node) refl
   where
-    one : (f : Bool) → has n (cond f (x.node ∷ []) []) ≡ (f && ((n == x.node) || false))
-    one true = refl
+    rest : Bool
+    rest = list_any (λ (e : Entry). (n == e.node) && f n e.property) xs
+
+    one : (b : Bool) → has n (cond b (x.node ∷ []) []) ≡ (b && (n == x.node))
+    one true = or-none (n == x.node)
     one false = refl
 
-    joined : (f r : Bool) → ((f && true) || (f && r)) ≡ (f && true)
-    joined true r = refl
-    joined false r = refl
+    joined : (a b r : Bool) → (((a && b) && true) || (a && r)) ≡ (a && (b || r))
+    joined true true r = refl
+    joined true false r = refl
+    joined false b r = refl
 
-    by : (c : Bool) → (n == x.node) ≡ c
-        → (has n (failed_by types scope nodes roots k x) || (is_failed types scope nodes roots k n && list_any (λ e. n == e.node) xs)) ≡ (is_failed types scope nodes roots k n && ((n == x.node) || list_any (λ e. n == e.node) xs))
+    by : (c : Bool) → (n == x.node) ≡ c → (has n (cond (u x.node && f x.node x.property) (x.node ∷ []) []) || (u n && rest)) ≡ (u n && (((n == x.node) && f n x.property) || rest))
     by true c =
-        ap (λ b. b || (is_failed types scope nodes roots k n && list_any (λ e. n == e.node) xs))
-        (one (is_failed types scope nodes roots k x.node) ∙ ap (λ b. is_failed types scope nodes roots k x.node && (b || false)) c ∙ ap (λ m. is_failed types scope nodes roots k m && true) (sym (eqb-true n x.node c)))
-        ∙ joined (is_failed types scope nodes roots k n) (list_any (λ e. n == e.node) xs)
-        ∙ ap (λ b. is_failed types scope nodes roots k n && (b || list_any (λ e. n == e.node) xs)) (sym c)
+        ap (λ b. b || (u n && rest))
+        (one (u x.node && f x.node x.property) ∙ ap (λ b. (u x.node && f x.node x.property) && b) c ∙ ap (λ m. (u m && f m x.property) && true) (sym (eqb-true n x.node c)))
+        ∙ joined (u n) (f n x.property) rest
+        ∙ ap (λ b. u n && ((b && f n x.property) || rest)) (sym c)
     by false c =
-        ap (λ b. b || (is_failed types scope nodes roots k n && list_any (λ e. n == e.node) xs))
-        (one (is_failed types scope nodes roots k x.node) ∙ ap (λ b. is_failed types scope nodes roots k x.node && (b || false)) c ∙ and-none (is_failed types scope nodes roots k x.node))
-        ∙ ap (λ b. is_failed types scope nodes roots k n && (b || list_any (λ e. n == e.node) xs)) (sym c)
+        ap (λ b. b || (u n && rest)) (one (u x.node && f x.node x.property) ∙ ap (λ b. (u x.node && f x.node x.property) && b) c ∙ and-none (u x.node && f x.node x.property))
+        ∙ ap (λ b. u n && ((b && f n x.property) || rest)) (sym c)
 
--- a node without an entry is valid
+-- what the entries of a node say together
+any-by : (c r t : Bool) (n : ℕ) (es : List Entry)
+    → list_any (λ (e : Entry). (n == e.node) && by_property c r t e.property) es
+    ≡ ((list_any (sets_on n Constraint) es && c) || ((list_any (sets_on n Required) es && r) || (list_any (sets_on n Kind) es && t)))
+any-by c r t n [] = refl
+any-by c r t n (x ∷ xs) =
+    ap (λ b. ((n == x.node) && by_property c r t x.property) || b) (any-by c r t n xs)
+    ∙ by x.property (n == x.node) (list_any (sets_on n Constraint) xs) (list_any (sets_on n Required) xs) (list_any (sets_on n Kind) xs)
+    ∙ ap (λ b. (((b && is_property x.property Constraint) || list_any (sets_on n Constraint) xs) && c)
+    || ((((b && is_property x.property Required) || list_any (sets_on n Required) xs) && r) || (((b && is_property x.property Kind) || list_any (sets_on n Kind) xs) && t)))
+    (turned n x.node)
+  where
+    first : (c b d : Bool) → (c || ((b && c) || d)) ≡ (c || d)
+    first true b d = refl
+    first false true d = refl
+    first false false d = refl
 
-unset : (n : ℕ) (p : Property) (es : List Entry) → list_any (λ e. n == e.node) es ≡ false → find (sets_on n p) es ≡ None
-unset n p [] h = refl
-unset n p (x ∷ xs) h = let q = or-parts (n == x.node) (list_any (λ e. n == e.node) xs) h in let is : (x.node == n) ≡ false = turned x.node n ∙ q.0 in rw is (unset n p xs q.1)
+    second : (a r b d : Bool) → (r || (a || ((b && r) || d))) ≡ (a || (r || d))
+    second true true b d = refl
+    second true false b d = refl
+    second false r b d = first r b d
+
+    third : (a b t d : Bool) → (t || (a || (b || (d && t)))) ≡ (a || (b || t))
+    third true b true d = refl
+    third true b false d = refl
+    third false true true d = refl
+    third false true false d = refl
+    third false false true d = refl
+    third false false false true = refl
+    third false false false false = refl
+
+    by : (p : Property) (e a b d : Bool)
+        → ((e && by_property c r t p) || ((a && c) || ((b && r) || (d && t))))
+        ≡ ((((e && is_property p Constraint) || a) && c) || ((((e && is_property p Required) || b) && r) || (((e && is_property p Kind) || d) && t)))
+    by p false a b d = refl
+    by Constraint true a b d = first c a ((b && r) || (d && t))
+    by Required true a b d = second (a && c) r b (d && t)
+    by Kind true a b d = third (a && c) (b && r) t d
+    by Calculate true a b d = refl
+    by Relevant true a b d = refl
+    by Readonly true a b d = refl
+
+-- a node without an entry of a property does not fail by it
 
 own-not : (k : Kept) (n : ℕ) (p : Property) (d : Bool) → is_property p Kind ≡ false → find (sets_on n p) k.entries ≡ None → own (values_of k) p d n ≡ d
 own-not k n p d c h = own-in k n p d c ∙ ap (λ o. truth_told d (option_map (truth_from k.stood) o)) h
 
-pub valid-unset : (types : List Restriction) (scope : Scope) (nodes : List Node) (k : Kept) (n : ℕ) → find (sets_on n Constraint) k.entries ≡ None → find (sets_on n Required) k.entries ≡ None → find (sets_on n Kind) k.entries ≡ None → fails types scope nodes k n ≡ false
+set-or : (n : ℕ) (p : Property) (es : List Entry) (b : Bool) → (find (sets_on n p) es ≡ None → b ≡ false) → (list_any (sets_on n p) es && b) ≡ b
+set-or n p es b unset = ap (λ s. s && b) (any-find (sets_on n p) es) ∙ by (find (sets_on n p) es) refl
+  where
+    by : (o : Option Entry) → find (sets_on n p) es ≡ o → (is_some o && b) ≡ b
+    by None e = sym (unset e)
+    by (Some x) e = refl
+
+-- it is not valid
+abbrev pub fails_any : List Restriction → Scope → List Node → Kept → ℕ → Bool
+fails_any types scope nodes k n = not (is_valid (is_of_type types) scope (visits nodes) k.entries (values_of k) n)
+
+pub valid-unset : (types : List Restriction) (scope : Scope) (nodes : List Node) (k : Kept) (n : ℕ) → find (sets_on n Constraint) k.entries ≡ None → find (sets_on n Required) k.entries ≡ None → find (sets_on n Kind) k.entries ≡ None → fails_any types scope nodes k n ≡ false
 valid-unset types scope nodes k n c r t =
     ap not (ap (λ a. (a && not (own (values_of k) Required false n && is_empty s)) && meets_kind (is_of_type types) (kind_of scope k.entries n) s) (own-not k n Constraint true refl c)
     ∙ ap (λ r. not (r && is_empty s) && meets_kind (is_of_type types) (kind_of scope k.entries n) s) (own-not k n Required false refl r)
@@ -239,8 +273,35 @@ valid-unset types scope nodes k n c r t =
     s : List ℕ
     s = string_value n (visits nodes)
 
-valid-none : (types : List Restriction) (scope : Scope) (nodes : List Node) (k : Kept) (n : ℕ) → list_any (λ e. n == e.node) k.entries ≡ false → fails types scope nodes k n ≡ false
-valid-none types scope nodes k n h = valid-unset types scope nodes k n (unset n Constraint k.entries h) (unset n Required k.entries h) (unset n Kind k.entries h)
+any-fails : (types : List Restriction) (scope : Scope) (nodes : List Node) (k : Kept) (n : ℕ)
+    → list_any (λ (e : Entry). (n == e.node) && fails types scope nodes k n e.property) k.entries ≡ fails_any types scope nodes k n
+any-fails types scope nodes k n =
+    any-by c r t n k.entries
+    ∙ ap (λ b. b || ((list_any (sets_on n Required) k.entries && r) || (list_any (sets_on n Kind) k.entries && t))) (set-or n Constraint k.entries c (λ h. ap not (own-not k n Constraint true refl h)))
+    ∙ ap (λ b. c || (b || (list_any (sets_on n Kind) k.entries && t))) (set-or n Required k.entries r (λ h. ap (λ b. b && is_empty s) (own-not k n Required false refl h)))
+    ∙ ap (λ b. c || (r || b)) (set-or n Kind k.entries t (λ h. ap (λ o. not (meets_kind (is_of_type types) (option_and_then (λ e. option_and_then (λ r. r.kind) (slice_get scope.rules e.bind)) o) s)) h))
+    ∙ told (own (values_of k) Constraint true n) r (meets_kind (is_of_type types) (kind_of scope k.entries n) s)
+  where
+    s : List ℕ
+    s = string_value n (visits nodes)
+
+    c : Bool
+    c = not (own (values_of k) Constraint true n)
+
+    r : Bool
+    r = own (values_of k) Required false n && is_empty s
+
+    t : Bool
+    t = not (meets_kind (is_of_type types) (kind_of scope k.entries n) s)
+
+    told : (c r t : Bool) → (not c || (r || not t)) ≡ not ((c && not r) && t)
+    told true true t = refl
+    told true false t = refl
+    told false r t = refl
+
+has-failed : (types : List Restriction) (scope : Scope) (nodes : List Node) (roots : List ℕ) (k : Kept) (n : ℕ)
+    → has n (failed_among types scope nodes roots k k.entries) ≡ (is_under nodes roots n && fails_any types scope nodes k n)
+has-failed types scope nodes roots k n = has-one (is_under nodes roots) (fails types scope nodes k) n k.entries ∙ ap (λ b. is_under nodes roots n && b) (any-fails types scope nodes k n)
 
 -- ---- in document order
 
@@ -264,29 +325,20 @@ invalid-found types scope instances nodes k a =
     roots = roots_from scope.model nodes 0 instances
 
     at : (n : ℕ) → has_number n nodes ≡ true → has n (failed_among types scope nodes roots k k.entries) ≡ is_invalid types scope instances nodes k n
-    at n live = has-failed types scope nodes roots k n k.entries ∙ by (list_any (λ e. n == e.node) k.entries) refl
-      where
-        failed : is_failed types scope nodes roots k n ≡ (is_held instances scope.model nodes n && fails types scope nodes k n)
-        failed =
-            ap (λ b. (b && has (top_of n (visits nodes)) roots) && fails types scope nodes k n) live
-            ∙ ap (λ b. b && fails types scope nodes k n) (roots-held (top_of n (visits nodes)) scope.model nodes instances a)
+    at n live =
+        has-failed types scope nodes roots k n ∙ ap (λ b. (b && has (top_of n (visits nodes)) roots) && fails_any types scope nodes k n) live
+        ∙ ap (λ b. b && fails_any types scope nodes k n) (roots-held (top_of n (visits nodes)) scope.model nodes instances a)
 
-        by : (b : Bool) → list_any (λ e. n == e.node) k.entries ≡ b → (is_failed types scope nodes roots k n && list_any (λ e. n == e.node) k.entries) ≡ is_invalid types scope instances nodes k n
-        by true e = ap (λ b. is_failed types scope nodes roots k n && b) e ∙ and-some (is_failed types scope nodes roots k n) ∙ failed
-        by false e =
-            ap (λ b. is_failed types scope nodes roots k n && b) e ∙ and-none (is_failed types scope nodes roots k n)
-            ∙ sym (and-none (is_held instances scope.model nodes n)) ∙ ap (λ b. is_held instances scope.model nodes n && b) (sym (valid-none types scope nodes k n e))
+-- ---- in the tree of a root
 
--- ---- what makes a node fail
+pub under-none : {b : Bool} (a : Bool) → b ≡ false → false ≡ (a && b)
+under-none a h = sym (ap (λ b. a && b) h ∙ and-none a)
 
-pub failed-not : (types : List Restriction) (scope : Scope) (nodes : List Node) (roots : List ℕ) (k : Kept) (n : ℕ) → has_number n nodes ≡ false → false ≡ is_failed types scope nodes roots k n
-failed-not types scope nodes roots k n h = sym (ap (λ b. (b && has (top_of n (visits nodes)) roots) && fails types scope nodes k n) h)
+pub under-outside : (nodes : List Node) (roots : List ℕ) (n : ℕ) (b : Bool) → has (top_of n (visits nodes)) roots ≡ false → false ≡ (is_under nodes roots n && b)
+under-outside nodes roots n b h = sym (ap (λ u. (has_number n nodes && u) && b) h ∙ ap (λ u. u && b) (and-none (has_number n nodes)))
 
-pub failed-outside : (types : List Restriction) (scope : Scope) (nodes : List Node) (roots : List ℕ) (k : Kept) (n : ℕ) → has (top_of n (visits nodes)) roots ≡ false → false ≡ is_failed types scope nodes roots k n
-failed-outside types scope nodes roots k n h = sym (ap (λ b. (has_number n nodes && b) && fails types scope nodes k n) h ∙ ap (λ b. b && fails types scope nodes k n) (and-none (has_number n nodes)))
-
-pub failed-inside : (types : List Restriction) (scope : Scope) (nodes : List Node) (roots : List ℕ) (k : Kept) (n : ℕ) → has_number n nodes ≡ true → has (top_of n (visits nodes)) roots ≡ true → fails types scope nodes k n ≡ is_failed types scope nodes roots k n
-failed-inside types scope nodes roots k n h i = sym (ap (λ b. (b && has (top_of n (visits nodes)) roots) && fails types scope nodes k n) h ∙ ap (λ b. b && fails types scope nodes k n) i)
+pub under-inside : (nodes : List Node) (roots : List ℕ) (n : ℕ) → has_number n nodes ≡ true → has (top_of n (visits nodes)) roots ≡ true → true ≡ is_under nodes roots n
+under-inside nodes roots n h i = sym (ap (λ u. has_number n nodes && u) i ∙ ap (λ u. u && true) h)
 
 -- ---- for loops over entries and instances
 

@@ -11,13 +11,11 @@ ghost use Rattle.xf_def_forest.specs.StringValue.{string_value};
 ghost use Rattle.xf_def_forest.specs.Visit.{visits};
 ghost use Rattle.xf_def_xpath.specs.Binding.{as_list};
 ghost use Rattle.xf_def_xpath.specs.Given.{Given};
-ghost use Rattle.xf_def_model.specs.Applied.{is_property};
-ghost use Rattle.xf_def_model.specs.Properties.{meets_kind, own};
+ghost use Rattle.xf_def_model.specs.Properties.{meets_kind};
 ghost use Rattle.xf_def_model.specs.Rules.{scope_of};
-ghost use Rattle.xf_binds.specs.Held.{entry_of};
-ghost use Rattle.xf_binds.specs.Kept.{values_of};
+ghost use Rattle.xf_binds.specs.Held.{AreSingle, entry_of};
 ghost use Rattle.xf_binds.specs.Table.{kept_at, with_kept};
-ghost use Rattle.xf_valid.specs.Failed.{IsAsked, asks_any, can_fail, failed_among, failed_at, fails_asked, is_failed, kind_in, roots_from};
+ghost use Rattle.xf_valid.specs.Failed.{asks_any, can_fail, failed_among, failed_at, fails_told, is_under, kind_in, roots_from};
 ghost use Rattle.xf_valid.specs.Invalid.{revalidated};
 
 use crate::nodes::truth_or;
@@ -28,14 +26,6 @@ use xf_def_model::Property;
 use xf_def_syntax::{Bind, Instance, Tables};
 use xf_schema::{NamedType, is_of_type};
 use xf_tree::Forest;
-
-/// What the entries of a node ask of it.
-#[derive(Clone, Copy, Debug)]
-pub(crate) struct Asked {
-    pub is_met: bool,
-    pub is_required: bool,
-    pub kind: Option<Entry>,
-}
 
 /// Finds the nodes of the model's instances that are not valid, and keeps them in the table. Whether they are those that were found before.
 /// Takes no memory where no entry asks anything that a node can fail.
@@ -78,6 +68,8 @@ fn all_failed(
         → found ≡ failed_among tables.now.types (scope_of functions given tables.now model) forest.now.forest.nodes roots.now (kept_at table.now model) (kept_at table.now model).entries) }
 {
     let mut found = NodeList::new(alloc);
+    // No property of a node is set twice, so that what an entry says is what its node has.
+    table.is_settled(model);
     let count = table.len(model);
     for at in 0..count {
         push_failed(alloc, &mut found, tables, forest, model, table, roots, at)?;
@@ -94,7 +86,7 @@ fn asks_any(table: &Table, model: u32) -> bool
         || table.sets_in(model, Property::Kind)
 }
 
-/// Adds the node of an entry, where it stands in an instance with one of these roots and is not valid.
+/// Adds the node of an entry, where it stands in an instance with one of these roots and does not meet the entry.
 fn push_failed(
     alloc: Global,
     found: &mut NodeList,
@@ -105,13 +97,15 @@ fn push_failed(
     roots: &NodeSet,
     at: usize,
 ) -> Result<(), AllocError>
+    requires { AreSingle (kept_at table.now model).entries }
     ensures { OnOk result ((functions : Functions) (given : Given) → found.new ≡ found.old
         ++ failed_at tables.now.types (scope_of functions given tables.now model) forest.now.forest.nodes roots.now (kept_at table.now model) (slice_get (kept_at table.now model).entries at)) }
 {
     let Some(entry) = table.entry(model, at) else {
         return Ok(());
     };
-    let failed = is_failed(alloc, tables, forest, model, table, roots, entry.node)?;
+    let truth = table.truth_at(model, at);
+    let failed = is_failed(alloc, tables, forest, roots, &entry, truth)?;
     push_where(found, failed, entry.node)
 }
 
@@ -124,72 +118,69 @@ fn push_where(found: &mut NodeList, is_wanted: bool, node: NodeId) -> Result<(),
     Ok(())
 }
 
-/// Whether a node stands in an instance with one of these roots and is not valid.
+/// Whether the node of an entry whose value has this truth stands in an instance with one of these roots and does not meet it.
 fn is_failed(
     alloc: Global,
     tables: &Tables,
     forest: &Forest,
-    model: u32,
-    table: &Table,
     roots: &NodeSet,
-    node: NodeId,
+    entry: &Entry,
+    truth: Option<bool>,
 ) -> Result<bool, AllocError>
-    ensures { IfOk result (λ failed. (functions : Functions) (given : Given)
-        → failed ≡ is_failed tables.now.types (scope_of functions given tables.now model) forest.now.forest.nodes roots.now (kept_at table.now model) node.number) }
+    ensures { IfOk result (λ failed. failed
+        ≡ (is_under forest.now.forest.nodes roots.now entry.now.node.number && fails_told tables.now.types tables.now.binds (entry_of entry.now) truth (string_value entry.now.node.number (visits forest.now.forest.nodes)))) }
 {
-    let asked = asked_of(table, model, node);
-    let can_fail = can_fail(&asked);
+    let can_fail = can_fail(entry.property, truth);
     if !can_fail {
         return Ok(false);
     }
-    let stands = forest.is_live(node);
+    let stands = forest.is_live(entry.node);
     if !stands {
         return Ok(false);
     }
-    let is_under = roots.has(forest.top(node));
+    let is_under = roots.has(forest.top(entry.node));
     if !is_under {
         return Ok(false);
     }
-    fails(alloc, tables, forest, &asked, node)
+    fails(alloc, tables, forest, entry, truth)
 }
 
-fn asked_of(table: &Table, model: u32, node: NodeId) -> Asked
-    ensures { IsAsked (kept_at table.now model) node.number result }
+/// Whether there is a string value with which a node may fail an entry of this property whose value has this truth.
+fn can_fail(property: Property, truth: Option<bool>) -> bool
+    ensures { result ≡ can_fail property truth }
 {
-    Asked {
-        is_met: own(table, model, node, Property::Constraint, true),
-        is_required: own(table, model, node, Property::Required, false),
-        kind: table.entry_on(model, node, Property::Kind),
+    match property {
+        Property::Kind => true,
+        Property::Required => truth_or(truth, false),
+        Property::Constraint => !truth_or(truth, true),
+        Property::Calculate => false,
+        Property::Relevant => false,
+        Property::Readonly => false,
     }
 }
 
-/// Whether there is a string value with which a node that is asked this may fail.
-fn can_fail(asked: &Asked) -> bool
-    ensures { result ≡ can_fail asked.now }
-{
-    !asked.is_met || asked.is_required || asked.kind.is_some()
-}
-
-/// Whether a node that is asked this is not valid.
+/// Whether the node of an entry whose value has this truth does not meet it.
 fn fails(
     alloc: Global,
     tables: &Tables,
     forest: &Forest,
-    asked: &Asked,
-    node: NodeId,
+    entry: &Entry,
+    truth: Option<bool>,
 ) -> Result<bool, AllocError>
-    requires { IsLive node.number forest.now.forest }
-    ensures { IfOk result (λ failed. failed ≡ fails_asked tables.now.types tables.now.binds asked.now (string_value node.number (visits forest.now.forest.nodes))) }
+    requires { IsLive entry.now.node.number forest.now.forest }
+    ensures { IfOk result (λ failed. failed ≡ fails_told tables.now.types tables.now.binds (entry_of entry.now) truth (string_value entry.now.node.number (visits forest.now.forest.nodes))) }
 {
-    if !asked.is_met {
-        return Ok(true);
+    match entry.property {
+        Property::Kind => {
+            let fits = is_of_kind(alloc, tables, forest, entry)?;
+            Ok(!fits)
+        }
+        Property::Required => Ok(is_missing(truth_or(truth, false), forest, entry.node)),
+        Property::Constraint => Ok(!truth_or(truth, true)),
+        Property::Calculate => Ok(false),
+        Property::Relevant => Ok(false),
+        Property::Readonly => Ok(false),
     }
-    let is_missing = is_missing(asked.is_required, forest, node);
-    if is_missing {
-        return Ok(true);
-    }
-    let fits = is_of_kind(alloc, tables, forest, asked.kind, node)?;
-    Ok(!fits)
 }
 
 /// Whether a node is required and empty.
@@ -205,14 +196,13 @@ fn is_of_kind(
     alloc: Global,
     tables: &Tables,
     forest: &Forest,
-    entry: Option<Entry>,
-    node: NodeId,
+    entry: &Entry,
 ) -> Result<bool, AllocError>
-    requires { IsLive node.number forest.now.forest }
-    ensures { IfOk result (λ met. met ≡ meets_kind (is_of_type tables.now.types) (kind_in tables.now.binds (option_map entry_of entry)) (string_value node.number (visits forest.now.forest.nodes))) }
+    requires { IsLive entry.now.node.number forest.now.forest }
+    ensures { IfOk result (λ met. met ≡ meets_kind (is_of_type tables.now.types) (kind_in tables.now.binds entry.now.bind) (string_value entry.now.node.number (visits forest.now.forest.nodes))) }
 {
-    match kind_in(tables.binds.as_slice(), entry) {
-        Some(named) => meets_at(alloc, tables, forest, named, node),
+    match kind_in(tables.binds.as_slice(), entry.bind) {
+        Some(named) => meets_at(alloc, tables, forest, named, entry.node),
         None => Ok(true),
     }
 }
@@ -255,26 +245,12 @@ fn push_root(
     }
 }
 
-/// The truth that the node's own entry of the model has.
-fn own(table: &Table, model: u32, node: NodeId, property: Property, default: bool) -> bool
-    requires { is_property property Property.Kind ≡ false }
-    ensures { result ≡ own (values_of (kept_at table.now model)) property default node.number }
+/// The type that a bind gives.
+fn kind_in(binds: &[Bind], bind: u32) -> Option<&NamedType>
+    ensures { option_map (λ kind. kind.now) result ≡ kind_in binds.now bind }
 {
-    match table.truth_in(model, node, property) {
-        Some(truth) => truth_or(truth, default),
-        None => default,
-    }
-}
-
-/// The type that an entry gives.
-fn kind_in(binds: &[Bind], entry: Option<Entry>) -> Option<&NamedType>
-    ensures { option_map (λ kind. kind.now) result ≡ kind_in binds.now (option_map entry_of entry) }
-{
-    match entry {
-        Some(entry) => match binds.get(entry.bind as usize) {
-            Some(bind) => bind.properties.kind.as_ref(),
-            None => None,
-        },
+    match binds.get(bind as usize) {
+        Some(bind) => bind.properties.kind.as_ref(),
         None => None,
     }
 }
