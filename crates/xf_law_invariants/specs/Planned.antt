@@ -1,2 +1,4 @@
 pub mod Outside
 pub mod Planned
+pub mod Roots
+pub mod Ready

@@ -24,9 +24,8 @@ use Rattle.xf_law_invariants.proofs.TreeLemmas.Attached.{place_laws}
 use Rattle.xf_law_invariants.proofs.TreeLemmas.Come.{tree_laws}
 use Rattle.xf_law_invariants.proofs.TreeLemmas.TextTrees.{text_laws}
 use Rattle.xf_law_invariants.proofs.PlannedLemmas.NewTrees.{hung-cut}
-use Rattle.xf_law_invariants.proofs.PlannedLemmas.Ready.{MayCut, MayJoin, attached-is, copied-growth, copied-next, copied-nodes, whole-trees}
-use Rattle.xf_law_invariants.proofs.PlannedLemmas.Instead.{MayReplace, replace-kind, replace-place, replace-single}
-use Rattle.xf_law_invariants.proofs.PlannedLemmas.RootTrees.{AreSingle}
+use Rattle.xf_law_invariants.proofs.PlannedLemmas.Ready.{attached-is, copied-growth, copied-next, copied-nodes, whole-trees}
+use Rattle.xf_law_invariants.proofs.PlannedLemmas.Instead.{replace-kind, replace-place, replace-single}
 use Rattle.xf_law_invariants.proofs.PlannedLemmas.RootForests.{single_detached, single_grown, single_placed, single_text}
 use Rattle.xf_def_machine.specs.declared.limit.LimitWord.{LimitWord}
 use Rattle.xf_def_machine.specs.declared.limit.LimitWord.TheVariants.{Made}
@@ -37,6 +36,8 @@ use Rattle.xf_def_machine.specs.State.{Model, State}
 use Rattle.xf_def_machine.specs.Surround.{all_in, model_holding}
 use Rattle.xf_law_machine.proofs.RestLemmas.Holds.{Held}
 use Rattle.xf_law_invariants.specs.Frame.Base.{IsBase, IsNewElement}
+use Rattle.xf_law_invariants.specs.Planned.Roots.{AreSingle}
+use Rattle.xf_law_invariants.specs.Planned.Ready.{MayCut, MayJoin, MayReplace}
 
 -- ---- what a change leaves
 

@@ -23,7 +23,6 @@ use Rattle.xf_def_model.specs.Rules.{Scope}
 use Rattle.xf_def_model.specs.Settled.{Bounds, Contents, calculates, content_by, holding, passed, round, rounds, settled_contents}
 use Rattle.xf_def_forest.specs.Visit.{Visit}
 use Rattle.xf_law_invariants.proofs.PlannedLemmas.NewTrees.{new-number}
-use Rattle.xf_law_invariants.proofs.PlannedLemmas.RootTrees.{AreSingle}
 use Rattle.xf_law_invariants.proofs.PlannedLemmas.RootForests.{single_text}
 use Rattle.xf_def_machine.specs.declared.limit.LimitWord.{LimitWord}
 use Rattle.xf_def_machine.specs.Behave.{changes_of, evaluated_more, model_at, recalculate, settled_in, with_contents}
@@ -37,6 +36,7 @@ use Rattle.xf_law_machine.proofs.RestLemmas.Holds.{Held}
 use Rattle.xf_law_invariants.specs.Frame.Base.{IsBase}
 use Rattle.xf_law_invariants.specs.Frame.Moves.{DataLaws}
 use Rattle.xf_law_invariants.proofs.FrameLemmas.BaseKept.{base-text, made-most}
+use Rattle.xf_law_invariants.specs.Planned.Roots.{AreSingle}
 
 -- ---- texts that come in one after the other
 

@@ -19,8 +19,7 @@ use Rattle.xf_law_forests.specs.Root.Roots.{IsNoRoot}
 use Rattle.xf_def_model.specs.Pertinent.{AllOf}
 use Rattle.xf_def_model.specs.Places.{Place, planned_insert}
 use Rattle.xf_def_model.specs.Taken.{planned_delete}
-use Rattle.xf_law_invariants.proofs.PlannedLemmas.Ready.{MayCut, MayJoin, IsReady, IsCopied, kinds-no-root, ready-joins, cut-ready, cut-all-may, cut-all-ready, come-all-may, come-all-ready, copied-is, copied-nodes, parent-behind}
-use Rattle.xf_law_invariants.proofs.PlannedLemmas.Instead.{MayReplace}
+use Rattle.xf_law_invariants.proofs.PlannedLemmas.Ready.{IsReady, IsCopied, kinds-no-root, ready-joins, cut-ready, cut-all-may, cut-all-ready, come-all-may, come-all-ready, copied-is, copied-nodes, parent-behind}
 use Rattle.xf_law_invariants.proofs.PlannedLemmas.Planned.{ArePlanned, planned, IsRow, rows, instead_of, nowhere, instead-root, at-kind, parent-kind, root-test}
 use Rattle.xf_law_invariants.proofs.PlannedLemmas.Parents.{inner-below, planned-cut}
 use Rattle.xf_law_invariants.proofs.PlannedLemmas.Planted.{IsElementFirst, IsPlanted, planted-is}
@@ -40,6 +39,7 @@ use Rattle.xf_law_machine.proofs.RestLemmas.Holds.{Held, held-both, held-is, hel
 use Rattle.xf_law_invariants.specs.Frame.Base.{IsBase, IsNewElement, is_one_element}
 use Rattle.xf_law_invariants.specs.Frame.Moves.{IsPassed, KeepsMoves, InsertsKeep, DeletesKeep, ReplacesKeep, MoveLaws}
 use Rattle.xf_law_invariants.proofs.FrameLemmas.BaseKept.{base-attach, base-copy, base-detach, base-instead, base-plant}
+use Rattle.xf_law_invariants.specs.Planned.Ready.{MayCut, MayJoin, MayReplace}
 
 -- ---- what a change leaves of the data
 

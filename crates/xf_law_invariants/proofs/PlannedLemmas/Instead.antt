@@ -4,7 +4,7 @@ use Rattle.std.specs.Prelude.{if◌then◌else◌}
 use Rattle.xf_def_forest.specs.declared.content.Kind.TheVariants as kind
 use Rattle.xf_def_forest.specs.Changes.{detached, placed}
 use Rattle.xf_def_forest.specs.Forest.{Forest, is_attribute, is_root, kind_at}
-use Rattle.xf_def_forest.specs.Needs.{MayPlace, is_top}
+use Rattle.xf_def_forest.specs.Needs.{MayPlace}
 use Rattle.xf_def_forest.specs.Visit.{parent_of, visits}
 use Rattle.xf_def_forest.specs.WellFormed.{HasTrees}
 use Rattle.xf_def_forest.proofs.BackLaws.{and-true}
@@ -18,10 +18,11 @@ use Rattle.xf_law_forests.proofs.RollbackLemmas.KeepingTrees.{Stands}
 use Rattle.xf_law_invariants.proofs.TreeLemmas.Come.{tree_laws}
 use Rattle.xf_law_invariants.proofs.TreeLemmas.OfKind.{kind_laws}
 use Rattle.xf_law_invariants.proofs.TreeLemmas.Topmost.{top_laws}
-use Rattle.xf_law_invariants.specs.Planned.Outside.{IsOutside}
 use Rattle.xf_law_invariants.proofs.PlannedLemmas.OutsideForests.{alone, kind-there, outside_detached}
-use Rattle.xf_law_invariants.proofs.PlannedLemmas.RootTrees.{AreSingle, few-changed, is_few, is_single, known-trees, none-found, single-by, single-removed}
+use Rattle.xf_law_invariants.proofs.PlannedLemmas.RootTrees.{few-changed, known-trees, none-found, single-by, single-removed}
 use Rattle.xf_law_invariants.proofs.PlannedLemmas.RootForests.{cut-nodes, join-nodes, no-root-at, once, single_detached, standing-trees}
+use Rattle.xf_law_invariants.specs.Planned.Roots.{AreSingle, is_few, is_single}
+use Rattle.xf_law_invariants.specs.Planned.Ready.{MayReplace}
 
 -- ---- roots without children
 
@@ -177,15 +178,6 @@ single-onto root place x (tree m c k r) few bare h =
     by a false e f g i = refl
 
 -- ---- in a forest
-
--- a document element may be replaced by a detached element
-pub record MayReplace (old top root : ℕ) (forest : Forest) : Type 0 where
-  pub old_kind : kind_at old forest.nodes ≡ Some kind.Element
-  pub below : parent_of old (visits forest.nodes) ≡ Some root
-  pub above : kind_at root forest.nodes ≡ Some kind.Root
-  pub detached_top : is_top top forest.nodes ≡ true
-  pub kind : kind_at top forest.nodes ≡ Some kind.Element
-  pub outside : IsOutside root top forest.nodes
 
 module _ (old top root : ℕ) (forest : Forest) (h : HasTrees forest) (may : MayReplace old top root forest) where
   pub cut-trees : HasTrees (detached old forest)

@@ -23,10 +23,11 @@ use Rattle.xf_def_model.specs.Places.{is_in}
 use Rattle.xf_def_model.specs.Taken.{asked_of, is_apart, is_open, planned_delete, taken_from}
 use Rattle.xf_def_xpath.specs.Binding.{as_list}
 use Rattle.xf_law_invariants.proofs.PlannedLemmas.OutsideForests.{alone}
-use Rattle.xf_law_invariants.proofs.PlannedLemmas.RootTrees.{document-by, is_under_root}
+use Rattle.xf_law_invariants.proofs.PlannedLemmas.RootTrees.{document-by}
 use Rattle.xf_law_invariants.proofs.PlannedLemmas.RootForests.{no-root-stands, once, standing-trees}
-use Rattle.xf_law_invariants.proofs.PlannedLemmas.Ready.{MayCut}
 use Rattle.xf_law_invariants.proofs.PlannedLemmas.Planned.{kind-in, root-in}
+use Rattle.xf_law_invariants.specs.Planned.Roots.{is_under_root}
+use Rattle.xf_law_invariants.specs.Planned.Ready.{MayCut}
 
 find-absent : (n : ℕ) (up : List ℕ) (t : Trees) (vs : List Visit) → times n t ≡ 0 → find (λ (x : Visit). x.number == n) (seen up t vs) ≡ find (λ (x : Visit). x.number == n) vs
 find-absent n up none vs h = refl

@@ -27,9 +27,10 @@ use Rattle.xf_def_model.specs.declared.asked.InsertAsked.{InsertAsked}
 use Rattle.xf_def_model.specs.Pertinent.{AllOf}
 use Rattle.xf_def_model.specs.Places.{Place, at_node, at_place, beside, content_in, elements_among, instead, is_in, last_alike, later_one, name_of, named_by, named_place, namesake, places_at, planned_insert, row_place, unless_again, within}
 use Rattle.xf_law_invariants.proofs.PlannedLemmas.OutsideForests.{alone, kind-there, stands-times}
-use Rattle.xf_law_invariants.proofs.PlannedLemmas.RootTrees.{document-by, is_under_root}
+use Rattle.xf_law_invariants.proofs.PlannedLemmas.RootTrees.{document-by}
 use Rattle.xf_law_invariants.proofs.PlannedLemmas.RootForests.{standing-trees}
-use Rattle.xf_law_invariants.proofs.PlannedLemmas.Ready.{MayCut}
+use Rattle.xf_law_invariants.specs.Planned.Roots.{is_under_root}
+use Rattle.xf_law_invariants.specs.Planned.Ready.{MayCut}
 
 -- ---- visits tell what the nodes are
 

@@ -20,9 +20,10 @@ use Rattle.xf_law_invariants.proofs.TreeLemmas.OfKind.{kind_laws}
 use Rattle.xf_law_invariants.specs.Planned.Outside.{IsOutside}
 use Rattle.xf_law_invariants.proofs.PlannedLemmas.OutsideForests.{top-stands}
 use Rattle.xf_law_invariants.proofs.PlannedLemmas.NewTrees.{new-number}
-use Rattle.xf_law_invariants.proofs.PlannedLemmas.RootTrees.{IsNoDocument}
 use Rattle.xf_law_invariants.proofs.PlannedLemmas.RootForests.{document_grown, document_none}
-use Rattle.xf_law_invariants.proofs.PlannedLemmas.Ready.{MayCut, kind-behind, kinds-no-root, less-number, old-out, tree-behind, tree-part}
+use Rattle.xf_law_invariants.proofs.PlannedLemmas.Ready.{kind-behind, kinds-no-root, less-number, old-out, tree-behind, tree-part}
+use Rattle.xf_law_invariants.specs.Planned.Roots.{IsNoDocument}
+use Rattle.xf_law_invariants.specs.Planned.Ready.{MayCut}
 
 -- the first is an element at depth 0
 pub record IsElementFirst (contents : List (ℕ × Content)) : Type 0 where

@@ -10,7 +10,7 @@ use Rattle.xf_def_forest.specs.declared.fault.TreeFault.TheVariants.{Depth}
 use Rattle.xf_def_forest.specs.Changes.{attached, contents_in, copied, detached, elements_above, place_of, placed, shifted}
 use Rattle.xf_def_forest.specs.Forest.{Forest, below, content_at, first_tree, from_node, has_number, kind_at, kind_of, tree_of}
 use Rattle.xf_def_forest.specs.Limits.{Limits, is_too_deep, passed_by_all, unless}
-use Rattle.xf_def_forest.specs.Needs.{MayPlace, goes_below, is_top}
+use Rattle.xf_def_forest.specs.Needs.{goes_below, is_top}
 use Rattle.xf_def_forest.specs.Plant.{numbered_from}
 use Rattle.xf_def_forest.specs.Visit.{Visit, above_in, ancestors_of, first_of, parent_of, still_above, visit, visits, visits_from}
 use Rattle.xf_def_forest.specs.WellFormed.{HasTrees, are_below}
@@ -28,21 +28,11 @@ use Rattle.xf_def_model.specs.Pertinent.{AllOf}
 use Rattle.xf_law_invariants.specs.Planned.Outside.{IsOutside}
 use Rattle.xf_law_invariants.proofs.PlannedLemmas.OutsideForests.{outside_detached, outside_grown, outside_placed, top-stands}
 use Rattle.xf_law_invariants.proofs.PlannedLemmas.NewTrees.{again-growth, new-number}
-use Rattle.xf_law_invariants.proofs.PlannedLemmas.RootTrees.{IsNoDocument}
 use Rattle.xf_law_invariants.proofs.PlannedLemmas.RootForests.{document_detached, document_grown, document_none, document_placed, no-root-stands}
+use Rattle.xf_law_invariants.specs.Planned.Roots.{IsNoDocument}
+use Rattle.xf_law_invariants.specs.Planned.Ready.{MayCut, MayJoin}
 
 -- ---- what waits
-
--- a node that may be cut off: no root, no text, and no document element
-pub record MayCut (n : ℕ) (forest : Forest) : Type 0 where
-  pub kind : IsNoRoot n forest
-  pub inner : IsNoDocument n forest.nodes
-
--- a detached tree that may come below this element
-pub record MayJoin (n parent : ℕ) (forest : Forest) : Type 0 where
-  pub may : MayPlace n parent forest
-  pub kind : IsNoRoot n forest
-  pub above : kind_at parent forest.nodes ≡ Some sort.Element
 
 -- a copy with its place below the parent
 pub record IsReady (parent : ℕ) (forest : Forest) (one : Place × ℕ) : Type 0 where

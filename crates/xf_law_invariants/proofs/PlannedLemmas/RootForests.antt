@@ -26,7 +26,8 @@ use Rattle.xf_law_forests.proofs.RollbackLemmas.GrowthSteps.{new-trees}
 use Rattle.xf_law_forests.proofs.RollbackLemmas.TextSteps.{after-nodes}
 use Rattle.xf_law_forests.proofs.RollbackLemmas.ValueSteps.{valued-nodes}
 use Rattle.xf_law_invariants.proofs.PlannedLemmas.OutsideForests.{alone, alone-trees, Reading, reading, joined, kind-there, none-times, stands-once}
-use Rattle.xf_law_invariants.proofs.PlannedLemmas.RootTrees.{AreSingle, IsNoDocument, is_single, is_under_root, known-trees, single-by, document-by, single-detached, under-detached, single-removed, single-changed, under-changed, under-followed, single-followed, single-rootless, under-rootless, single-revalued, single-retexted, under-removed, absent-under}
+use Rattle.xf_law_invariants.proofs.PlannedLemmas.RootTrees.{known-trees, single-by, document-by, single-detached, under-detached, single-removed, single-changed, under-changed, under-followed, single-followed, single-rootless, under-rootless, single-revalued, single-retexted, under-removed, absent-under}
+use Rattle.xf_law_invariants.specs.Planned.Roots.{AreSingle, IsNoDocument, is_single, is_under_root}
 
 -- ---- a forest in hand
 

@@ -9,7 +9,7 @@ use Rattle.xf_def_forest.specs.declared.content.Kind.TheVariants as kind
 use Rattle.xf_def_forest.specs.declared.content.Node.{Node}
 use Rattle.xf_def_forest.specs.declared.fault.TreeFault.{TreeFault}
 use Rattle.xf_def_forest.specs.declared.fault.TreeFault.TheVariants.{Depth}
-use Rattle.xf_def_forest.specs.Changes.{attached, elements_above, moved_to, place_of, placed, with_below, without_tree}
+use Rattle.xf_def_forest.specs.Changes.{elements_above, moved_to, place_of, placed, with_below, without_tree}
 use Rattle.xf_def_forest.specs.Forest.{below, content_at, first_tree, from_node, has_number, is_attribute, is_element, is_root, kind_at, kind_of, past, tree_of}
 use Rattle.xf_def_forest.specs.Limits.{is_too_deep, unless}
 use Rattle.xf_def_forest.specs.Needs.{goes_below}

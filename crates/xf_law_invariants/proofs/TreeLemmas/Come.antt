@@ -7,7 +7,7 @@ use Rattle.std.proofs.lemmas.Bool.Decides.{nat_tests}
 use Rattle.xf_def_forest.specs.declared.content.Content.{Content}
 use Rattle.xf_def_forest.specs.declared.content.Node.{Node}
 use Rattle.xf_def_forest.specs.declared.fault.TreeFault.{TreeFault}
-use Rattle.xf_def_forest.specs.Changes.{contents_in, copied, detached, in_instances, is_detached_top, moved_to, shifted, without_tree}
+use Rattle.xf_def_forest.specs.Changes.{contents_in, in_instances, is_detached_top, moved_to, shifted, without_tree}
 use Rattle.xf_def_forest.specs.Forest.{Forest, is_root, tree_of}
 use Rattle.xf_def_forest.specs.Limits.{passed_by_all, passed_by_tree, unless}
 use Rattle.xf_def_forest.specs.Plant.{numbered_from}

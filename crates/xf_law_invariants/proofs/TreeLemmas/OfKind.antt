@@ -9,7 +9,7 @@ use Rattle.xf_def_forest.specs.declared.content.Kind.TheVariants as kind
 use Rattle.xf_def_forest.specs.declared.content.Node.{Node}
 use Rattle.xf_def_forest.specs.declared.fault.TreeFault.{TreeFault}
 use Rattle.xf_def_forest.specs.declared.fault.TreeFault.TheVariants.{Depth}
-use Rattle.xf_def_forest.specs.Changes.{attached, contents_in, detached, elements_above, moved_to, place_of, placed, with_below, with_part, without_tree}
+use Rattle.xf_def_forest.specs.Changes.{contents_in, elements_above, moved_to, place_of, placed, with_below, with_part, without_tree}
 use Rattle.xf_def_forest.specs.Forest.{Forest, content_at, has_number, kind_at, kind_of, tree_of}
 use Rattle.xf_def_forest.specs.Limits.{is_too_deep, passed_by_all, passed_by_tree, unless}
 use Rattle.xf_def_forest.specs.Needs.{MayPlace}

@@ -5,7 +5,7 @@ use Rattle.std.proofs.lemmas.Bool.Decides.{nat_tests}
 use Rattle.xf_def_forest.specs.declared.content.Node.{Node}
 use Rattle.xf_def_forest.specs.declared.fault.TreeFault.{TreeFault}
 use Rattle.xf_def_forest.specs.declared.fault.TreeFault.TheVariants.{Depth}
-use Rattle.xf_def_forest.specs.Changes.{at_place, attached, contents_in, detached, elements_above, moved_to, place_of, placed, shifted, with_attribute, with_below, with_child, with_part, without_tree}
+use Rattle.xf_def_forest.specs.Changes.{at_place, contents_in, detached, elements_above, moved_to, place_of, placed, shifted, with_attribute, with_below, with_child, with_part, without_tree}
 use Rattle.xf_def_forest.specs.Forest.{Forest, below, content_at, first_tree, from_node, has_number, is_attribute, past, tree_of}
 use Rattle.xf_def_forest.specs.Limits.{is_too_deep, passed_by_all, unless}
 use Rattle.xf_def_forest.specs.Needs.{is_top}

@@ -11,11 +11,11 @@ use Rattle.xf_law_forests.specs.Root.Roots.{AreAhead, IsNoRoot}
 use Rattle.xf_law_invariants.specs.Tree.Trees.{AreTreesAlone}
 use Rattle.xf_law_recalculation.specs.Agree.Hung.{are_hung}
 use Rattle.xf_def_model.specs.Pertinent.{AllOf}
-use Rattle.xf_law_invariants.proofs.PlannedLemmas.RootTrees.{AreSingle}
 use Rattle.xf_def_machine.specs.Profile.{Profile}
 use Rattle.xf_def_machine.specs.Program.{Program}
 use Rattle.xf_def_machine.specs.State.{State}
 use Rattle.xf_law_machine.specs.Rest.Rests.{are_filled}
+use Rattle.xf_law_invariants.specs.Planned.Roots.{AreSingle}
 
 -- from the number that came next when the event began
 pub record IsBase (p : Profile) (first : ℕ) (s : State) : Type 0 where

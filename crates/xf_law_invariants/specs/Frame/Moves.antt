@@ -11,8 +11,6 @@ use Rattle.xf_def_model.specs.Pertinent.{AllOf}
 use Rattle.xf_def_model.specs.Places.{planned_insert}
 use Rattle.xf_def_model.specs.Settled.{calculates}
 use Rattle.xf_def_model.specs.Taken.{planned_delete}
-use Rattle.xf_law_invariants.proofs.PlannedLemmas.Instead.{MayReplace}
-use Rattle.xf_law_invariants.proofs.PlannedLemmas.Ready.{MayCut, MayJoin}
 use Rattle.xf_def_machine.specs.Behave.{model_at, recalculate}
 use Rattle.xf_def_machine.specs.Construct.{replace}
 use Rattle.xf_def_machine.specs.Flow.{in_turn}
@@ -22,6 +20,7 @@ use Rattle.xf_def_machine.specs.Profile.{Profile}
 use Rattle.xf_def_machine.specs.State.{State}
 use Rattle.xf_law_machine.proofs.RestLemmas.Holds.{Held}
 use Rattle.xf_law_invariants.specs.Frame.Base.{IsBase, IsNewElement}
+use Rattle.xf_law_invariants.specs.Planned.Ready.{MayCut, MayJoin, MayReplace}
 
 -- the changes of trees
 pub record KeepsMoves (p : Profile) (first : ℕ) (Q : State → Type 0) : Type 0 where
