@@ -1,4 +1,5 @@
 pub mod Performs
+pub mod Fault
 pub mod Seen
 pub mod Told
 pub mod Chosen

@@ -9,6 +9,7 @@ ghost use Rattle.xf_def_machine.specs.Default.{default};
 ghost use Rattle.xf_def_machine.specs.Update.{update as updated};
 ghost use Rattle.xf_def_machine.specs.Dispatch.{handle as handles, after_all, dispatch as dispatches};
 ghost use Rattle.xf_store.specs.Called.{Called};
+ghost use Rattle.xf_actions.specs.Fault.{means};
 ghost use Rattle.xf_actions.specs.Performs.{RunsOver};
 ghost use Rattle.xf_actions.specs.Seen.{fired_of, acting_of, ending_of};
 ghost use Rattle.xf_actions.specs.Defaulted.{ended};
@@ -16,7 +17,7 @@ ghost use Rattle.xf_actions.specs.Parts.{once_done, acted};
 
 use crate::acting::Acting;
 use crate::defaults::default_action;
-use crate::fault::WorldFault;
+use crate::fault::EventFault;
 use crate::fired::{Ending, Fired};
 use crate::parts::{holds_condition, holds_repetition, is_action, is_block, is_repeated};
 use crate::round::begin_round;
@@ -33,15 +34,15 @@ pub fn dispatch<W: World, S: Store>(
     depth: u32,
     is_idle: bool,
     store: &mut S,
-) -> Result<(), W::Fault>
-    ensures done { RunsOver W.Fault.means (W.state world.new) result (λ answers. dispatches W.profile answers depth is_idle (fired_of fired.now) (W.state world.old)) }
+) -> Result<(), EventFault>
+    ensures done { RunsOver means (W.state world.new) result (λ answers. dispatches W.profile answers depth is_idle (fired_of fired.now) (W.state world.old)) }
     ensures store { Called (S.calls store.old, S.to_come store.old) (S.calls store.new, S.to_come store.new) (W.state world.old).calls (W.state world.new).calls }
     ensures kept { W.kept world.new ≡ W.kept world.old }
     ensures form { (W.state world.new).form ≡ (W.state world.old).form }
 {
     world.spend()?;
     if depth == 0 {
-        return Err(W::Fault::depth());
+        return Err(EventFault::depth());
     }
     let called = world.calls(fired)?;
     handle_all(
@@ -67,8 +68,8 @@ fn handle_all<W: World, S: Store>(
     depth: u32,
     is_idle: bool,
     store: &mut S,
-) -> Result<(), W::Fault>
-    ensures done { RunsOver W.Fault.means (W.state world.new) result (λ answers. in_turn (handles W.profile (dispatches W.profile answers depth) is_idle (fired_of fired.now)) handlers.now (W.state world.old)) }
+) -> Result<(), EventFault>
+    ensures done { RunsOver means (W.state world.new) result (λ answers. in_turn (handles W.profile (dispatches W.profile answers depth) is_idle (fired_of fired.now)) handlers.now (W.state world.old)) }
     ensures store { Called (S.calls store.old, S.to_come store.old) (S.calls store.new, S.to_come store.new) (W.state world.old).calls (W.state world.new).calls }
     ensures kept { W.kept world.new ≡ W.kept world.old }
     ensures form { (W.state world.new).form ≡ (W.state world.old).form }
@@ -88,8 +89,8 @@ fn handle<W: World, S: Store>(
     depth: u32,
     is_idle: bool,
     store: &mut S,
-) -> Result<(), W::Fault>
-    ensures done { RunsOver W.Fault.means (W.state world.new) result (λ answers. handles W.profile (dispatches W.profile answers depth) is_idle (fired_of fired.now) handler (W.state world.old)) }
+) -> Result<(), EventFault>
+    ensures done { RunsOver means (W.state world.new) result (λ answers. handles W.profile (dispatches W.profile answers depth) is_idle (fired_of fired.now) handler (W.state world.old)) }
     ensures store { Called (S.calls store.old, S.to_come store.old) (S.calls store.new, S.to_come store.new) (W.state world.old).calls (W.state world.new).calls }
     ensures kept { W.kept world.new ≡ W.kept world.old }
     ensures form { (W.state world.new).form ≡ (W.state world.old).form }
@@ -112,8 +113,8 @@ fn act<W: World, S: Store>(
     depth: u32,
     left: usize,
     store: &mut S,
-) -> Result<(), W::Fault>
-    ensures done { RunsOver W.Fault.means (W.state world.new) result (λ answers. act_within left W.profile (dispatches W.profile answers depth false) (fired_of fired.now) element (W.state world.old)) }
+) -> Result<(), EventFault>
+    ensures done { RunsOver means (W.state world.new) result (λ answers. act_within left W.profile (dispatches W.profile answers depth false) (fired_of fired.now) element (W.state world.old)) }
     ensures store { Called (S.calls store.old, S.to_come store.old) (S.calls store.new, S.to_come store.new) (W.state world.old).calls (W.state world.new).calls }
     ensures kept { W.kept world.new ≡ W.kept world.old }
     ensures form { (W.state world.new).form ≡ (W.state world.old).form }
@@ -136,8 +137,8 @@ fn repeat<W: World, S: Store>(
     depth: u32,
     left: usize,
     store: &mut S,
-) -> Result<(), W::Fault>
-    ensures done { RunsOver W.Fault.means (W.state world.new) result (λ answers. acted W.profile (dispatches W.profile answers depth false) (act_within left W.profile (dispatches W.profile answers depth false) (fired_of fired.now)) (acting_of fired.now acting.now) (act_at (W.state world.old) acting.now.element) (W.state world.old)) }
+) -> Result<(), EventFault>
+    ensures done { RunsOver means (W.state world.new) result (λ answers. acted W.profile (dispatches W.profile answers depth false) (act_within left W.profile (dispatches W.profile answers depth false) (fired_of fired.now)) (acting_of fired.now acting.now) (act_at (W.state world.old) acting.now.element) (W.state world.old)) }
     ensures store { Called (S.calls store.old, S.to_come store.old) (S.calls store.new, S.to_come store.new) (W.state world.old).calls (W.state world.new).calls }
     ensures kept { W.kept world.new ≡ W.kept world.old }
     ensures form { (W.state world.new).form ≡ (W.state world.old).form }
@@ -153,7 +154,7 @@ fn repeat<W: World, S: Store>(
         }
         once(world, fired, acting, depth, left, store)?;
     }
-    Err(W::Fault::budget())
+    Err(EventFault::budget())
 }
 
 #[cycle(act)]
@@ -164,8 +165,8 @@ fn once<W: World, S: Store>(
     depth: u32,
     left: usize,
     store: &mut S,
-) -> Result<(), W::Fault>
-    ensures done { RunsOver W.Fault.means (W.state world.new) result (λ answers. once_done W.profile (dispatches W.profile answers depth false) (act_within left W.profile (dispatches W.profile answers depth false) (fired_of fired.now)) (acting_of fired.now acting.now) (act_at (W.state world.old) acting.now.element) (W.state world.old)) }
+) -> Result<(), EventFault>
+    ensures done { RunsOver means (W.state world.new) result (λ answers. once_done W.profile (dispatches W.profile answers depth false) (act_within left W.profile (dispatches W.profile answers depth false) (fired_of fired.now)) (acting_of fired.now acting.now) (act_at (W.state world.old) acting.now.element) (W.state world.old)) }
     ensures store { Called (S.calls store.old, S.to_come store.old) (S.calls store.new, S.to_come store.new) (W.state world.old).calls (W.state world.new).calls }
     ensures kept { W.kept world.new ≡ W.kept world.old }
     ensures form { (W.state world.new).form ≡ (W.state world.old).form }
@@ -189,8 +190,8 @@ fn act_all<W: World, S: Store>(
     depth: u32,
     left: usize,
     store: &mut S,
-) -> Result<(), W::Fault>
-    ensures done { RunsOver W.Fault.means (W.state world.new) result (λ answers. in_turn (act_within left W.profile (dispatches W.profile answers depth false) (fired_of fired.now)) parts.now (W.state world.old)) }
+) -> Result<(), EventFault>
+    ensures done { RunsOver means (W.state world.new) result (λ answers. in_turn (act_within left W.profile (dispatches W.profile answers depth false) (fired_of fired.now)) parts.now (W.state world.old)) }
     ensures store { Called (S.calls store.old, S.to_come store.old) (S.calls store.new, S.to_come store.new) (W.state world.old).calls (W.state world.new).calls }
     ensures kept { W.kept world.new ≡ W.kept world.old }
     ensures form { (W.state world.new).form ≡ (W.state world.old).form }
@@ -209,8 +210,8 @@ fn tell_all<W: World, S: Store>(
     depth: u32,
     is_idle: bool,
     store: &mut S,
-) -> Result<(), W::Fault>
-    ensures done { RunsOver W.Fault.means (W.state world.new) result (λ answers. in_turn (dispatches W.profile answers depth is_idle) (map fired_of events.now) (W.state world.old)) }
+) -> Result<(), EventFault>
+    ensures done { RunsOver means (W.state world.new) result (λ answers. in_turn (dispatches W.profile answers depth is_idle) (map fired_of events.now) (W.state world.old)) }
     ensures store { Called (S.calls store.old, S.to_come store.old) (S.calls store.new, S.to_come store.new) (W.state world.old).calls (W.state world.new).calls }
     ensures kept { W.kept world.new ≡ W.kept world.old }
     ensures form { (W.state world.new).form ≡ (W.state world.old).form }
@@ -223,8 +224,12 @@ fn tell_all<W: World, S: Store>(
 
 /// Rounds until nothing is due: each spends a turn.
 #[cycle(act)]
-pub fn update<W: World, S: Store>(world: &mut W, depth: u32, store: &mut S) -> Result<(), W::Fault>
-    ensures done { RunsOver W.Fault.means (W.state world.new) result (λ answers. updated W.profile (dispatches W.profile answers depth false) (W.state world.old)) }
+pub fn update<W: World, S: Store>(
+    world: &mut W,
+    depth: u32,
+    store: &mut S,
+) -> Result<(), EventFault>
+    ensures done { RunsOver means (W.state world.new) result (λ answers. updated W.profile (dispatches W.profile answers depth false) (W.state world.old)) }
     ensures store { Called (S.calls store.old, S.to_come store.old) (S.calls store.new, S.to_come store.new) (W.state world.old).calls (W.state world.new).calls }
     ensures kept { W.kept world.new ≡ W.kept world.old }
     ensures form { (W.state world.new).form ≡ (W.state world.old).form }
@@ -237,7 +242,7 @@ pub fn update<W: World, S: Store>(world: &mut W, depth: u32, store: &mut S) -> R
         let events = begin_round(world)?;
         tell_all(world, events.as_slice(), depth, false, store)?;
     }
-    Err(W::Fault::budget())
+    Err(EventFault::budget())
 }
 
 /// The default action of an event, and where none is running the update after it.
@@ -248,8 +253,8 @@ fn conclude<W: World, S: Store>(
     depth: u32,
     is_idle: bool,
     store: &mut S,
-) -> Result<(), W::Fault>
-    ensures done { RunsOver W.Fault.means (W.state world.new) result (λ answers. after_all W.profile answers (dispatches W.profile answers depth) is_idle (fired_of fired.now) (W.state world.old)) }
+) -> Result<(), EventFault>
+    ensures done { RunsOver means (W.state world.new) result (λ answers. after_all W.profile answers (dispatches W.profile answers depth) is_idle (fired_of fired.now) (W.state world.old)) }
     ensures store { Called (S.calls store.old, S.to_come store.old) (S.calls store.new, S.to_come store.new) (W.state world.old).calls (W.state world.new).calls }
     ensures kept { W.kept world.new ≡ W.kept world.old }
     ensures form { (W.state world.new).form ≡ (W.state world.old).form }
@@ -269,8 +274,8 @@ fn act_by_default<W: World, S: Store>(
     depth: u32,
     is_idle: bool,
     store: &mut S,
-) -> Result<(), W::Fault>
-    ensures done { RunsOver W.Fault.means (W.state world.new) result (λ answers. default W.profile answers (dispatches W.profile answers depth is_idle) (fired_of fired.now) (W.state world.old)) }
+) -> Result<(), EventFault>
+    ensures done { RunsOver means (W.state world.new) result (λ answers. default W.profile answers (dispatches W.profile answers depth is_idle) (fired_of fired.now) (W.state world.old)) }
     ensures store { Called (S.calls store.old, S.to_come store.old) (S.calls store.new, S.to_come store.new) (W.state world.old).calls (W.state world.new).calls }
     ensures kept { W.kept world.new ≡ W.kept world.old }
     ensures form { (W.state world.new).form ≡ (W.state world.old).form }
@@ -288,8 +293,8 @@ fn tell_end<W: World, S: Store>(
     depth: u32,
     is_idle: bool,
     store: &mut S,
-) -> Result<(), W::Fault>
-    ensures done { RunsOver W.Fault.means (W.state world.new) result (λ answers. where_some (option_map (ending_of (W.state world.old).form) ending.now) (ended (dispatches W.profile answers depth is_idle)) (W.state world.old)) }
+) -> Result<(), EventFault>
+    ensures done { RunsOver means (W.state world.new) result (λ answers. where_some (option_map (ending_of (W.state world.old).form) ending.now) (ended (dispatches W.profile answers depth is_idle)) (W.state world.old)) }
     ensures store { Called (S.calls store.old, S.to_come store.old) (S.calls store.new, S.to_come store.new) (W.state world.old).calls (W.state world.new).calls }
     ensures kept { W.kept world.new ≡ W.kept world.old }
     ensures form { (W.state world.new).form ≡ (W.state world.old).form }

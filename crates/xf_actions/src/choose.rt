@@ -4,6 +4,7 @@ ghost use Rattle.std.specs.Prelude.{◌≡◌, [], ◌∷◌, map, option_map, c
 ghost use Rattle.xf_def_machine.specs.Acting.{act_at};
 ghost use Rattle.xf_def_machine.specs.Choose.{not_below_zero as at_least_zero};
 ghost use Rattle.xf_def_machine.specs.Events.{plainly};
+ghost use Rattle.xf_actions.specs.Fault.{means};
 ghost use Rattle.xf_actions.specs.Performs.{Runs, Makes, Reads};
 ghost use Rattle.xf_actions.specs.Seen.{fired_of, acting_of};
 ghost use Rattle.xf_actions.specs.Parts.{index_in};
@@ -11,6 +12,7 @@ ghost use Rattle.xf_actions.specs.Chosen.{index_asked as asks_index, index_chose
 ghost use Rattle.xf_actions.specs.Changed.{toggle as toggles, toggle_in as toggles_in, toggled as makes_toggled};
 
 use crate::acting::Acting;
+use crate::fault::EventFault;
 use crate::fired::{Fired, FiredList};
 use crate::parts::action_of;
 use crate::tell::two;
@@ -25,8 +27,8 @@ pub fn set_index<W: World>(
     fired: &Fired,
     acting: &Acting,
     repeat: u32,
-) -> Result<(), W::Fault>
-    ensures done { Runs W.Fault.means (W.state world.new) result (index_chosen W.profile (acting_of fired.now acting.now) repeat (index_in (act_at (W.state world.old) acting.now.element)) (W.state world.old)) }
+) -> Result<(), EventFault>
+    ensures done { Runs means (W.state world.new) result (index_chosen W.profile (acting_of fired.now acting.now) repeat (index_in (act_at (W.state world.old) acting.now.element)) (W.state world.old)) }
     ensures kept { W.kept world.new ≡ W.kept world.old }
     ensures form { (W.state world.new).form ≡ (W.state world.old).form }
     ensures calls { (W.state world.new).calls ≡ (W.state world.old).calls }
@@ -41,8 +43,12 @@ pub fn set_index<W: World>(
     }
 }
 
-fn index_asked<W: World>(world: &W, fired: &Fired, acting: &Acting) -> Result<Option<u64>, W::Fault>
-    ensures { Reads W.Fault.means (λ k. k) (W.state world.now) result (asks_index W.profile (acting_of fired.now acting.now) (index_in (act_at (W.state world.now) acting.now.element)) (W.state world.now)) }
+fn index_asked<W: World>(
+    world: &W,
+    fired: &Fired,
+    acting: &Acting,
+) -> Result<Option<u64>, EventFault>
+    ensures { Reads means (λ k. k) (W.state world.now) result (asks_index W.profile (acting_of fired.now acting.now) (index_in (act_at (W.state world.now) acting.now.element)) (W.state world.now)) }
 {
     match action_of(world.form(), acting.element) {
         Some(action) => match &action.work {
@@ -66,8 +72,8 @@ fn not_below_zero(number: Option<i64>) -> Option<u64>
 }
 
 /// To the case that is selected it has no effect.
-pub fn toggle<W: World>(world: &mut W, acting: &Acting, case: u32) -> Result<FiredList, W::Fault>
-    ensures done { Makes W.Fault.means (map fired_of) (W.state world.new) result (toggles acting.now.model case (W.state world.old)) }
+pub fn toggle<W: World>(world: &mut W, acting: &Acting, case: u32) -> Result<FiredList, EventFault>
+    ensures done { Makes means (map fired_of) (W.state world.new) result (toggles acting.now.model case (W.state world.old)) }
     ensures kept { W.kept world.new ≡ W.kept world.old }
     ensures form { (W.state world.new).form ≡ (W.state world.old).form }
     ensures calls { (W.state world.new).calls ≡ (W.state world.old).calls }
@@ -83,8 +89,8 @@ fn toggle_in<W: World>(
     model: u32,
     case: u32,
     parent: u32,
-) -> Result<FiredList, W::Fault>
-    ensures done { Makes W.Fault.means (map fired_of) (W.state world.new) result (toggles_in model case parent (W.state world.old)) }
+) -> Result<FiredList, EventFault>
+    ensures done { Makes means (map fired_of) (W.state world.new) result (toggles_in model case parent (W.state world.old)) }
     ensures kept { W.kept world.new ≡ W.kept world.old }
     ensures form { (W.state world.new).form ≡ (W.state world.old).form }
     ensures calls { (W.state world.new).calls ≡ (W.state world.old).calls }
@@ -108,8 +114,8 @@ fn toggled<W: World>(
     place: usize,
     case: u32,
     rows: &NodeList,
-) -> Result<FiredList, W::Fault>
-    ensures done { Makes W.Fault.means (map fired_of) (W.state world.new) result (makes_toggled model switch place case rows.now (W.state world.old)) }
+) -> Result<FiredList, EventFault>
+    ensures done { Makes means (map fired_of) (W.state world.new) result (makes_toggled model switch place case rows.now (W.state world.old)) }
     ensures kept { W.kept world.new ≡ W.kept world.old }
     ensures form { (W.state world.new).form ≡ (W.state world.old).form }
     ensures calls { (W.state world.new).calls ≡ (W.state world.old).calls }
@@ -127,8 +133,8 @@ fn case_events<W: World>(
     before: u32,
     case: u32,
     rows: &NodeList,
-) -> Result<FiredList, W::Fault>
-    ensures { Reads W.Fault.means (map fired_of) (W.state world.now) result (Ok (plainly (codes "xforms-deselect") before rows.now ∷ plainly (codes "xforms-select") case rows.now ∷ [])) }
+) -> Result<FiredList, EventFault>
+    ensures { Reads means (map fired_of) (W.state world.now) result (Ok (plainly (codes "xforms-deselect") before rows.now ∷ plainly (codes "xforms-select") case rows.now ∷ [])) }
 {
     let deselect = world.event("xforms-deselect", true, true, before, rows)?;
     let select = world.event("xforms-select", true, true, case, rows)?;

@@ -5,10 +5,12 @@ ghost use Rattle.xf_store.specs.Called.{Called};
 ghost use Rattle.xf_def_machine.specs.Program.{role_at};
 ghost use Rattle.xf_def_machine.specs.Tables.{role_of, role_of_control};
 ghost use Rattle.xf_def_machine.specs.Default.{recalculate_now as recalculates_now, revalidate_now as revalidates_now};
+ghost use Rattle.xf_actions.specs.Fault.{means};
 ghost use Rattle.xf_actions.specs.Performs.{Runs, Makes, LeavesOver};
 ghost use Rattle.xf_actions.specs.Seen.{fired_of, concluded_of};
 ghost use Rattle.xf_actions.specs.Defaulted.{model_default, default_of, done_quietly, defaulted, refreshed_now};
 
+use crate::fault::EventFault;
 use crate::fired::{Concluded, Fired, FiredList};
 use crate::reset::reset;
 use crate::round::{rebuild_due, recalculate_due, revalidate_due};
@@ -115,12 +117,13 @@ fn which_default<W: World>(world: &W, fired: &Fired) -> DefaultAction
 }
 
 /// The default action of an event. It gives what is told after it.
+#[inline(never)]
 pub fn default_action<W: World, S: Store>(
     world: &mut W,
     fired: &Fired,
     store: &mut S,
-) -> Result<Concluded, W::Fault>
-    ensures done { LeavesOver W.Fault.means (concluded_of (W.state world.old).form (W.state world.new)) (W.state world.new) result (λ answers. defaulted W.profile answers (fired_of fired.now) (W.state world.old)) }
+) -> Result<Concluded, EventFault>
+    ensures done { LeavesOver means (concluded_of (W.state world.old).form (W.state world.new)) (W.state world.new) result (λ answers. defaulted W.profile answers (fired_of fired.now) (W.state world.old)) }
     ensures store { Called (S.calls store.old, S.to_come store.old) (S.calls store.new, S.to_come store.new) (W.state world.old).calls (W.state world.new).calls }
     ensures kept { W.kept world.new ≡ W.kept world.old }
     ensures form { (W.state world.new).form ≡ (W.state world.old).form }
@@ -152,8 +155,8 @@ fn only(events: FiredList) -> Concluded
     }
 }
 
-fn act_quietly<W: World>(world: &mut W, action: QuietAction) -> Result<(), W::Fault>
-    ensures done { Runs W.Fault.means (W.state world.new) result (done_quietly W.profile action (W.state world.old)) }
+fn act_quietly<W: World>(world: &mut W, action: QuietAction) -> Result<(), EventFault>
+    ensures done { Runs means (W.state world.new) result (done_quietly W.profile action (W.state world.old)) }
     ensures kept { W.kept world.new ≡ W.kept world.old }
     ensures form { (W.state world.new).form ≡ (W.state world.old).form }
     ensures calls { (W.state world.new).calls ≡ (W.state world.old).calls }
@@ -168,8 +171,8 @@ fn act_quietly<W: World>(world: &mut W, action: QuietAction) -> Result<(), W::Fa
 }
 
 /// What is due before, and then the behaviour itself, due or not.
-fn recalculate_now<W: World>(world: &mut W, model: u32) -> Result<(), W::Fault>
-    ensures done { Runs W.Fault.means (W.state world.new) result (recalculates_now W.profile model (W.state world.old)) }
+fn recalculate_now<W: World>(world: &mut W, model: u32) -> Result<(), EventFault>
+    ensures done { Runs means (W.state world.new) result (recalculates_now W.profile model (W.state world.old)) }
     ensures kept { W.kept world.new ≡ W.kept world.old }
     ensures form { (W.state world.new).form ≡ (W.state world.old).form }
     ensures calls { (W.state world.new).calls ≡ (W.state world.old).calls }
@@ -178,8 +181,8 @@ fn recalculate_now<W: World>(world: &mut W, model: u32) -> Result<(), W::Fault>
     world.recalculate(model)
 }
 
-fn revalidate_now<W: World>(world: &mut W, model: u32) -> Result<(), W::Fault>
-    ensures done { Runs W.Fault.means (W.state world.new) result (revalidates_now W.profile model (W.state world.old)) }
+fn revalidate_now<W: World>(world: &mut W, model: u32) -> Result<(), EventFault>
+    ensures done { Runs means (W.state world.new) result (revalidates_now W.profile model (W.state world.old)) }
     ensures kept { W.kept world.new ≡ W.kept world.old }
     ensures form { (W.state world.new).form ≡ (W.state world.old).form }
     ensures calls { (W.state world.new).calls ≡ (W.state world.old).calls }
@@ -188,8 +191,8 @@ fn revalidate_now<W: World>(world: &mut W, model: u32) -> Result<(), W::Fault>
     world.revalidate(model)
 }
 
-fn refresh_now<W: World>(world: &mut W, model: u32) -> Result<FiredList, W::Fault>
-    ensures done { Makes W.Fault.means (map fired_of) (W.state world.new) result (refreshed_now W.profile model (W.state world.old)) }
+fn refresh_now<W: World>(world: &mut W, model: u32) -> Result<FiredList, EventFault>
+    ensures done { Makes means (map fired_of) (W.state world.new) result (refreshed_now W.profile model (W.state world.old)) }
     ensures kept { W.kept world.new ≡ W.kept world.old }
     ensures form { (W.state world.new).form ≡ (W.state world.old).form }
     ensures calls { (W.state world.new).calls ≡ (W.state world.old).calls }

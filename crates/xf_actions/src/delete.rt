@@ -5,12 +5,14 @@ ghost use Rattle.xf_def_machine.specs.Flow.{in_turn};
 ghost use Rattle.xf_def_machine.specs.Acting.{act_at};
 ghost use Rattle.xf_def_machine.specs.Insert.{moved_focus};
 ghost use Rattle.xf_def_machine.specs.Delete.{at_asked, location_of};
+ghost use Rattle.xf_actions.specs.Fault.{means};
 ghost use Rattle.xf_actions.specs.Performs.{Runs, Makes, Reads};
 ghost use Rattle.xf_actions.specs.Seen.{fired_of, acting_of, focus_of};
 ghost use Rattle.xf_actions.specs.Parts.{delete_in};
 ghost use Rattle.xf_actions.specs.TreeChanges.{delete as deletes, delete_at as deletes_at, cut, deleted_from as deletes_from, deleted as makes_deleted};
 
 use crate::acting::Acting;
+use crate::fault::EventFault;
 use crate::fired::{Fired, FiredList};
 use crate::parts::action_of;
 use crate::tell::one;
@@ -25,8 +27,8 @@ pub fn delete<W: World>(
     world: &mut W,
     fired: &Fired,
     acting: &Acting,
-) -> Result<FiredList, W::Fault>
-    ensures done { Makes W.Fault.means (map fired_of) (W.state world.new) result (deletes W.profile (acting_of fired.now acting.now) (delete_in (act_at (W.state world.old) acting.now.element)) (W.state world.old)) }
+) -> Result<FiredList, EventFault>
+    ensures done { Makes means (map fired_of) (W.state world.new) result (deletes W.profile (acting_of fired.now acting.now) (delete_in (act_at (W.state world.old) acting.now.element)) (W.state world.old)) }
     ensures kept { W.kept world.new ≡ W.kept world.old }
     ensures form { (W.state world.new).form ≡ (W.state world.old).form }
     ensures calls { (W.state world.new).calls ≡ (W.state world.old).calls }
@@ -37,8 +39,8 @@ pub fn delete<W: World>(
     }
 }
 
-fn context<W: World>(world: &W, fired: &Fired, acting: &Acting) -> Result<Option<Focus>, W::Fault>
-    ensures { Reads W.Fault.means (option_map focus_of) (W.state world.now) result (moved_focus W.profile (acting_of fired.now acting.now) (delete_in (act_at (W.state world.now) acting.now.element)).context (W.state world.now)) }
+fn context<W: World>(world: &W, fired: &Fired, acting: &Acting) -> Result<Option<Focus>, EventFault>
+    ensures { Reads means (option_map focus_of) (W.state world.now) result (moved_focus W.profile (acting_of fired.now acting.now) (delete_in (act_at (W.state world.now) acting.now.element)).context (W.state world.now)) }
 {
     match action_of(world.form(), acting.element) {
         Some(action) => match &action.work {
@@ -54,8 +56,8 @@ fn delete_at<W: World>(
     fired: &Fired,
     acting: &Acting,
     focus: &Focus,
-) -> Result<FiredList, W::Fault>
-    ensures done { Makes W.Fault.means (map fired_of) (W.state world.new) result (deletes_at W.profile (acting_of fired.now acting.now) (delete_in (act_at (W.state world.old) acting.now.element)) (focus_of focus.now) (W.state world.old)) }
+) -> Result<FiredList, EventFault>
+    ensures done { Makes means (map fired_of) (W.state world.new) result (deletes_at W.profile (acting_of fired.now acting.now) (delete_in (act_at (W.state world.old) acting.now.element)) (focus_of focus.now) (W.state world.old)) }
     ensures kept { W.kept world.new ≡ W.kept world.old }
     ensures form { (W.state world.new).form ≡ (W.state world.old).form }
     ensures calls { (W.state world.new).calls ≡ (W.state world.old).calls }
@@ -71,8 +73,8 @@ fn place_asked<W: World>(
     fired: &Fired,
     acting: &Acting,
     set: &NodeList,
-) -> Result<Option<i64>, W::Fault>
-    ensures { Reads W.Fault.means (λ k. k) (W.state world.now) result (at_asked W.profile (acting_of fired.now acting.now) (delete_in (act_at (W.state world.now) acting.now.element)).at set.now (W.state world.now)) }
+) -> Result<Option<i64>, EventFault>
+    ensures { Reads means (λ k. k) (W.state world.now) result (at_asked W.profile (acting_of fired.now acting.now) (delete_in (act_at (W.state world.now) acting.now.element)).at set.now (W.state world.now)) }
 {
     match action_of(world.form(), acting.element) {
         Some(action) => match &action.work {
@@ -89,8 +91,8 @@ fn deleted<W: World>(
     nodes: &NodeList,
     set: &NodeList,
     at: Option<i64>,
-) -> Result<FiredList, W::Fault>
-    ensures done { Makes W.Fault.means (map fired_of) (W.state world.new) result (makes_deleted W.profile (location_of (W.state world.old).form.decimals set.now at) nodes.now (W.state world.old)) }
+) -> Result<FiredList, EventFault>
+    ensures done { Makes means (map fired_of) (W.state world.new) result (makes_deleted W.profile (location_of (W.state world.old).form.decimals set.now at) nodes.now (W.state world.old)) }
     ensures kept { W.kept world.new ≡ W.kept world.old }
     ensures form { (W.state world.new).form ≡ (W.state world.old).form }
     ensures calls { (W.state world.new).calls ≡ (W.state world.old).calls }
@@ -107,8 +109,8 @@ fn deleted_from<W: World>(
     nodes: &NodeList,
     set: &NodeList,
     at: Option<i64>,
-) -> Result<FiredList, W::Fault>
-    ensures done { Makes W.Fault.means (map fired_of) (W.state world.new) result (deletes_from W.profile (location_of (W.state world.old).form.decimals set.now at) first.number nodes.now (W.state world.old)) }
+) -> Result<FiredList, EventFault>
+    ensures done { Makes means (map fired_of) (W.state world.new) result (deletes_from W.profile (location_of (W.state world.old).form.decimals set.now at) first.number nodes.now (W.state world.old)) }
     ensures kept { W.kept world.new ≡ W.kept world.old }
     ensures form { (W.state world.new).form ≡ (W.state world.old).form }
     ensures calls { (W.state world.new).calls ≡ (W.state world.old).calls }
@@ -126,8 +128,8 @@ fn deleted_from<W: World>(
     }
 }
 
-fn detach_all<W: World>(world: &mut W, nodes: &[NodeId]) -> Result<(), W::Fault>
-    ensures done { Runs W.Fault.means (W.state world.new) result (in_turn cut (map (λ n. n.number) nodes.now) (W.state world.old)) }
+fn detach_all<W: World>(world: &mut W, nodes: &[NodeId]) -> Result<(), EventFault>
+    ensures done { Runs means (W.state world.new) result (in_turn cut (map (λ n. n.number) nodes.now) (W.state world.old)) }
     ensures kept { W.kept world.new ≡ W.kept world.old }
     ensures form { (W.state world.new).form ≡ (W.state world.old).form }
     ensures calls { (W.state world.new).calls ≡ (W.state world.old).calls }

@@ -5,6 +5,7 @@ ghost use Rattle.xf_def_machine.specs.Flow.{in_turn};
 ghost use Rattle.xf_def_machine.specs.Acting.{act_at};
 ghost use Rattle.xf_def_machine.specs.Tables.{insert_by};
 ghost use Rattle.xf_def_machine.specs.Insert.{moved_focus, place_asked, copies_of, without_one, put_copy as puts_copy};
+ghost use Rattle.xf_actions.specs.Fault.{means};
 ghost use Rattle.xf_actions.specs.Performs.{Runs, Makes, Reads};
 ghost use Rattle.xf_actions.specs.Seen.{fired_of, acting_of, focus_of, place_of, inserting_of};
 ghost use Rattle.xf_actions.specs.Parts.{insert_in};
@@ -12,7 +13,7 @@ ghost use Rattle.xf_actions.specs.Inserting.{planned};
 ghost use Rattle.xf_actions.specs.TreeChanges.{insert as inserts, insert_at as inserts_at, inserted_by, inserted_in as inserts_in};
 
 use crate::acting::Acting;
-use crate::fault::WorldFault;
+use crate::fault::EventFault;
 use crate::fired::{Fired, FiredList};
 use crate::parts::action_of;
 use crate::place::{Inserting, Place};
@@ -28,8 +29,8 @@ pub fn insert<W: World>(
     world: &mut W,
     fired: &Fired,
     acting: &Acting,
-) -> Result<FiredList, W::Fault>
-    ensures done { Makes W.Fault.means (map fired_of) (W.state world.new) result (inserts W.profile (acting_of fired.now acting.now) (insert_in (act_at (W.state world.old) acting.now.element)) (W.state world.old)) }
+) -> Result<FiredList, EventFault>
+    ensures done { Makes means (map fired_of) (W.state world.new) result (inserts W.profile (acting_of fired.now acting.now) (insert_in (act_at (W.state world.old) acting.now.element)) (W.state world.old)) }
     ensures kept { W.kept world.new ≡ W.kept world.old }
     ensures form { (W.state world.new).form ≡ (W.state world.old).form }
     ensures calls { (W.state world.new).calls ≡ (W.state world.old).calls }
@@ -40,8 +41,8 @@ pub fn insert<W: World>(
     }
 }
 
-fn context<W: World>(world: &W, fired: &Fired, acting: &Acting) -> Result<Option<Focus>, W::Fault>
-    ensures { Reads W.Fault.means (option_map focus_of) (W.state world.now) result (moved_focus W.profile (acting_of fired.now acting.now) (insert_in (act_at (W.state world.now) acting.now.element)).context (W.state world.now)) }
+fn context<W: World>(world: &W, fired: &Fired, acting: &Acting) -> Result<Option<Focus>, EventFault>
+    ensures { Reads means (option_map focus_of) (W.state world.now) result (moved_focus W.profile (acting_of fired.now acting.now) (insert_in (act_at (W.state world.now) acting.now.element)).context (W.state world.now)) }
 {
     match action_of(world.form(), acting.element) {
         Some(action) => match &action.work {
@@ -57,8 +58,8 @@ fn insert_at<W: World>(
     fired: &Fired,
     acting: &Acting,
     focus: &Focus,
-) -> Result<FiredList, W::Fault>
-    ensures done { Makes W.Fault.means (map fired_of) (W.state world.new) result (inserts_at W.profile (acting_of fired.now acting.now) (insert_in (act_at (W.state world.old) acting.now.element)) (focus_of focus.now) (W.state world.old)) }
+) -> Result<FiredList, EventFault>
+    ensures done { Makes means (map fired_of) (W.state world.new) result (inserts_at W.profile (acting_of fired.now acting.now) (insert_in (act_at (W.state world.old) acting.now.element)) (focus_of focus.now) (W.state world.old)) }
     ensures kept { W.kept world.new ≡ W.kept world.old }
     ensures form { (W.state world.new).form ≡ (W.state world.old).form }
     ensures calls { (W.state world.new).calls ≡ (W.state world.old).calls }
@@ -72,8 +73,8 @@ fn inserting<W: World>(
     fired: &Fired,
     acting: &Acting,
     focus: &Focus,
-) -> Result<Inserting, W::Fault>
-    ensures { Reads W.Fault.means inserting_of (W.state world.now) result (planned W.profile (acting_of fired.now acting.now) (insert_in (act_at (W.state world.now) acting.now.element)) (focus_of focus.now) (W.state world.now)) }
+) -> Result<Inserting, EventFault>
+    ensures { Reads means inserting_of (W.state world.now) result (planned W.profile (acting_of fired.now acting.now) (insert_in (act_at (W.state world.now) acting.now.element)) (focus_of focus.now) (W.state world.now)) }
 {
     let none = InsertWork {
         context: None,
@@ -96,8 +97,8 @@ fn inserting_by<W: World>(
     acting: &Acting,
     work: &InsertWork,
     focus: &Focus,
-) -> Result<Inserting, W::Fault>
-    ensures { Reads W.Fault.means inserting_of (W.state world.now) result (planned W.profile (acting_of fired.now acting.now) (insert_by work.now) (focus_of focus.now) (W.state world.now)) }
+) -> Result<Inserting, EventFault>
+    ensures { Reads means inserting_of (W.state world.now) result (planned W.profile (acting_of fired.now acting.now) (insert_by work.now) (focus_of focus.now) (W.state world.now)) }
 {
     let set = world.bound_set(fired, acting, focus)?;
     let origin = world.origin(fired, acting, focus, &work.origin, &set)?;
@@ -119,8 +120,8 @@ fn place<W: World>(
     work: &InsertWork,
     origin: &NodeList,
     set: &NodeList,
-) -> Result<Option<i64>, W::Fault>
-    ensures { Reads W.Fault.means (λ k. k) (W.state world.now) result (place_asked W.profile (acting_of fired.now acting.now) (insert_by work.now).at origin.now set.now (W.state world.now)) }
+) -> Result<Option<i64>, EventFault>
+    ensures { Reads means (λ k. k) (W.state world.now) result (place_asked W.profile (acting_of fired.now acting.now) (insert_by work.now).at origin.now set.now (W.state world.now)) }
 {
     match origin.get(0) {
         None => Ok(None),
@@ -129,8 +130,8 @@ fn place<W: World>(
 }
 
 /// The copies are made and go to their places, the indexes are brought up to date, and the instance is told.
-fn inserted<W: World>(world: &mut W, inserting: &Inserting) -> Result<FiredList, W::Fault>
-    ensures done { Makes W.Fault.means (map fired_of) (W.state world.new) result (inserted_by W.profile (inserting_of inserting.now) (W.state world.old)) }
+fn inserted<W: World>(world: &mut W, inserting: &Inserting) -> Result<FiredList, EventFault>
+    ensures done { Makes means (map fired_of) (W.state world.new) result (inserted_by W.profile (inserting_of inserting.now) (W.state world.old)) }
     ensures kept { W.kept world.new ≡ W.kept world.old }
     ensures form { (W.state world.new).form ≡ (W.state world.old).form }
     ensures calls { (W.state world.new).calls ≡ (W.state world.old).calls }
@@ -145,8 +146,8 @@ fn inserted_in<W: World>(
     world: &mut W,
     parent: NodeId,
     inserting: &Inserting,
-) -> Result<FiredList, W::Fault>
-    ensures done { Makes W.Fault.means (map fired_of) (W.state world.new) result (inserts_in W.profile inserting.now.is_before inserting.now.location parent.number (map place_of inserting.now.places) (W.state world.old)) }
+) -> Result<FiredList, EventFault>
+    ensures done { Makes means (map fired_of) (W.state world.new) result (inserts_in W.profile inserting.now.is_before inserting.now.location parent.number (map place_of inserting.now.places) (W.state world.old)) }
     ensures kept { W.kept world.new ≡ W.kept world.old }
     ensures form { (W.state world.new).form ≡ (W.state world.old).form }
     ensures calls { (W.state world.new).calls ≡ (W.state world.old).calls }
@@ -165,8 +166,8 @@ fn inserted_in<W: World>(
 }
 
 /// A copy of the origin of each place.
-fn copies<W: World>(world: &mut W, places: &[Place]) -> Result<NodeList, W::Fault>
-    ensures done { Makes W.Fault.means (λ tops. tops) (W.state world.new) result (copies_of W.profile (map (λ q. q.origin) (map place_of places.now)) (W.state world.old)) }
+fn copies<W: World>(world: &mut W, places: &[Place]) -> Result<NodeList, EventFault>
+    ensures done { Makes means (λ tops. tops) (W.state world.new) result (copies_of W.profile (map (λ q. q.origin) (map place_of places.now)) (W.state world.old)) }
     ensures kept { W.kept world.new ≡ W.kept world.old }
     ensures form { (W.state world.new).form ≡ (W.state world.old).form }
     ensures calls { (W.state world.new).calls ≡ (W.state world.old).calls }
@@ -176,15 +177,15 @@ fn copies<W: World>(world: &mut W, places: &[Place]) -> Result<NodeList, W::Faul
         let top = world.copy(place.origin)?;
         match tops.push(top) {
             Ok(()) => continue,
-            Err(_) => return Err(W::Fault::memory()),
+            Err(_) => return Err(EventFault::memory()),
         }
     }
     Ok(tops)
 }
 
 /// One after the other goes to its place.
-fn put_copies<W: World>(world: &mut W, places: &[Place], tops: &NodeList) -> Result<(), W::Fault>
-    ensures done { Runs W.Fault.means (W.state world.new) result (in_turn (puts_copy W.profile tops.now) (zip (map place_of places.now) tops.now) (W.state world.old)) }
+fn put_copies<W: World>(world: &mut W, places: &[Place], tops: &NodeList) -> Result<(), EventFault>
+    ensures done { Runs means (W.state world.new) result (in_turn (puts_copy W.profile tops.now) (zip (map place_of places.now) tops.now) (W.state world.old)) }
     ensures kept { W.kept world.new ≡ W.kept world.old }
     ensures form { (W.state world.new).form ≡ (W.state world.old).form }
     ensures calls { (W.state world.new).calls ≡ (W.state world.old).calls }
@@ -207,8 +208,8 @@ fn put_copy<W: World>(
     place: &Place,
     tops: &NodeList,
     top: NodeId,
-) -> Result<(), W::Fault>
-    ensures done { Runs W.Fault.means (W.state world.new) result (puts_copy W.profile tops.now (place_of place.now, top.number) (W.state world.old)) }
+) -> Result<(), EventFault>
+    ensures done { Runs means (W.state world.new) result (puts_copy W.profile tops.now (place_of place.now, top.number) (W.state world.old)) }
     ensures kept { W.kept world.new ≡ W.kept world.old }
     ensures form { (W.state world.new).form ≡ (W.state world.old).form }
     ensures calls { (W.state world.new).calls ≡ (W.state world.old).calls }
@@ -218,8 +219,8 @@ fn put_copy<W: World>(
     world.attach(top, place.parent, place.place)
 }
 
-fn detach_some<W: World>(world: &mut W, node: Option<NodeId>) -> Result<(), W::Fault>
-    ensures done { Runs W.Fault.means (W.state world.new) result (Ok (without_one (option_map (λ n. n.number) node) (W.state world.old))) }
+fn detach_some<W: World>(world: &mut W, node: Option<NodeId>) -> Result<(), EventFault>
+    ensures done { Runs means (W.state world.new) result (Ok (without_one (option_map (λ n. n.number) node) (W.state world.old))) }
     ensures kept { W.kept world.new ≡ W.kept world.old }
     ensures form { (W.state world.new).form ≡ (W.state world.old).form }
     ensures calls { (W.state world.new).calls ≡ (W.state world.old).calls }

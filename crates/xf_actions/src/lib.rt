@@ -20,7 +20,7 @@ mod world;
 
 pub use act::{dispatch, update};
 pub use acting::Acting;
-pub use fault::WorldFault;
+pub use fault::EventFault;
 pub use fired::{Concluded, Ending, Fired, FiredList};
 pub use place::{Inserting, Place, PlaceList};
 pub use world::{Flag, World};

@@ -4,11 +4,13 @@ ghost use Rattle.std.specs.Prelude.{◌≡◌, is_some, option_map};
 ghost use Rattle.std.specs.Option.{option_copied};
 ghost use Rattle.xf_def_machine.specs.Tables.{act_of, role_of};
 ghost use Rattle.xf_def_machine.specs.Acting.{act_at, act_in};
+ghost use Rattle.xf_actions.specs.Fault.{means};
 ghost use Rattle.xf_actions.specs.Performs.{Reads};
 ghost use Rattle.xf_actions.specs.Seen.{fired_of, acting_of};
 ghost use Rattle.xf_actions.specs.Parts.{action_at, work_in, condition_in, repetition_in, is_block as blocks, holds};
 
 use crate::acting::Acting;
+use crate::fault::EventFault;
 use crate::fired::Fired;
 use crate::world::World;
 use xf_def_syntax::{Action, Form, Kind, Work};
@@ -64,12 +66,13 @@ pub fn is_repeated<W: World>(world: &W, element: u32) -> bool
     }
 }
 
+#[inline(never)]
 pub fn holds_condition<W: World>(
     world: &W,
     fired: &Fired,
     acting: &Acting,
-) -> Result<bool, W::Fault>
-    ensures { Reads W.Fault.means (λ b. b) (W.state world.now) result (holds W.profile (acting_of fired.now acting.now) (condition_in (act_at (W.state world.now) acting.now.element)) (W.state world.now)) }
+) -> Result<bool, EventFault>
+    ensures { Reads means (λ b. b) (W.state world.now) result (holds W.profile (acting_of fired.now acting.now) (condition_in (act_at (W.state world.now) acting.now.element)) (W.state world.now)) }
 {
     match action_of(world.form(), acting.element) {
         Some(action) => match &action.condition {
@@ -80,12 +83,13 @@ pub fn holds_condition<W: World>(
     }
 }
 
+#[inline(never)]
 pub fn holds_repetition<W: World>(
     world: &W,
     fired: &Fired,
     acting: &Acting,
-) -> Result<bool, W::Fault>
-    ensures { Reads W.Fault.means (λ b. b) (W.state world.now) result (holds W.profile (acting_of fired.now acting.now) (repetition_in (act_at (W.state world.now) acting.now.element)) (W.state world.now)) }
+) -> Result<bool, EventFault>
+    ensures { Reads means (λ b. b) (W.state world.now) result (holds W.profile (acting_of fired.now acting.now) (repetition_in (act_at (W.state world.now) acting.now.element)) (W.state world.now)) }
 {
     match action_of(world.form(), acting.element) {
         Some(action) => match &action.repetition {

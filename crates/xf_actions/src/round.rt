@@ -2,17 +2,20 @@
 
 ghost use Rattle.std.specs.Prelude.{◌≡◌, map};
 ghost use Rattle.xf_def_machine.specs.Update.{due_rebuild as rebuilds, due_recalculation as recalculates, due_revalidation as revalidates};
+ghost use Rattle.xf_actions.specs.Fault.{means};
 ghost use Rattle.xf_actions.specs.Performs.{Runs, Makes};
 ghost use Rattle.xf_actions.specs.Seen.{fired_of};
 ghost use Rattle.xf_actions.specs.Told.{all_behaved, round_begun};
 
+use crate::fault::EventFault;
 use crate::fired::FiredList;
 use crate::world::{Flag, World};
 use xf_base::Items;
 
 /// Spends the turn of a round and does what is due. It gives the events that are told after it.
-pub fn begin_round<W: World>(world: &mut W) -> Result<FiredList, W::Fault>
-    ensures done { Makes W.Fault.means (map fired_of) (W.state world.new) result (round_begun W.profile (W.state world.old)) }
+#[inline(never)]
+pub fn begin_round<W: World>(world: &mut W) -> Result<FiredList, EventFault>
+    ensures done { Makes means (map fired_of) (W.state world.new) result (round_begun W.profile (W.state world.old)) }
     ensures kept { W.kept world.new ≡ W.kept world.old }
     ensures form { (W.state world.new).form ≡ (W.state world.old).form }
     ensures calls { (W.state world.new).calls ≡ (W.state world.old).calls }
@@ -27,8 +30,8 @@ pub fn begin_round<W: World>(world: &mut W) -> Result<FiredList, W::Fault>
 }
 
 /// The models one after the other.
-fn behave_all<W: World>(world: &mut W) -> Result<(), W::Fault>
-    ensures done { Runs W.Fault.means (W.state world.new) result (all_behaved W.profile (W.state world.old)) }
+fn behave_all<W: World>(world: &mut W) -> Result<(), EventFault>
+    ensures done { Runs means (W.state world.new) result (all_behaved W.profile (W.state world.old)) }
     ensures kept { W.kept world.new ≡ W.kept world.old }
     ensures form { (W.state world.new).form ≡ (W.state world.old).form }
     ensures calls { (W.state world.new).calls ≡ (W.state world.old).calls }
@@ -41,8 +44,8 @@ fn behave_all<W: World>(world: &mut W) -> Result<(), W::Fault>
 }
 
 /// What is due of a model, as far as the revalidation.
-pub fn revalidate_due<W: World>(world: &mut W, model: u32) -> Result<(), W::Fault>
-    ensures done { Runs W.Fault.means (W.state world.new) result (revalidates W.profile model (W.state world.old)) }
+pub fn revalidate_due<W: World>(world: &mut W, model: u32) -> Result<(), EventFault>
+    ensures done { Runs means (W.state world.new) result (revalidates W.profile model (W.state world.old)) }
     ensures kept { W.kept world.new ≡ W.kept world.old }
     ensures form { (W.state world.new).form ≡ (W.state world.old).form }
     ensures calls { (W.state world.new).calls ≡ (W.state world.old).calls }
@@ -55,8 +58,8 @@ pub fn revalidate_due<W: World>(world: &mut W, model: u32) -> Result<(), W::Faul
     }
 }
 
-pub fn recalculate_due<W: World>(world: &mut W, model: u32) -> Result<(), W::Fault>
-    ensures done { Runs W.Fault.means (W.state world.new) result (recalculates W.profile model (W.state world.old)) }
+pub fn recalculate_due<W: World>(world: &mut W, model: u32) -> Result<(), EventFault>
+    ensures done { Runs means (W.state world.new) result (recalculates W.profile model (W.state world.old)) }
     ensures kept { W.kept world.new ≡ W.kept world.old }
     ensures form { (W.state world.new).form ≡ (W.state world.old).form }
     ensures calls { (W.state world.new).calls ≡ (W.state world.old).calls }
@@ -69,8 +72,8 @@ pub fn recalculate_due<W: World>(world: &mut W, model: u32) -> Result<(), W::Fau
     }
 }
 
-pub fn rebuild_due<W: World>(world: &mut W, model: u32) -> Result<(), W::Fault>
-    ensures done { Runs W.Fault.means (W.state world.new) result (rebuilds W.profile model (W.state world.old)) }
+pub fn rebuild_due<W: World>(world: &mut W, model: u32) -> Result<(), EventFault>
+    ensures done { Runs means (W.state world.new) result (rebuilds W.profile model (W.state world.old)) }
     ensures kept { W.kept world.new ≡ W.kept world.old }
     ensures form { (W.state world.new).form ≡ (W.state world.old).form }
     ensures calls { (W.state world.new).calls ≡ (W.state world.old).calls }

@@ -3,6 +3,7 @@
 ghost use Rattle.std.specs.Prelude.{◌≡◌, map};
 ghost use Rattle.xf_def_machine.specs.Acting.{act_at};
 ghost use Rattle.xf_def_machine.specs.SetValue.{set_value as value_set, set_open, value_asked};
+ghost use Rattle.xf_actions.specs.Fault.{means};
 ghost use Rattle.xf_actions.specs.Performs.{Runs, Makes, Reads};
 ghost use Rattle.xf_actions.specs.Seen.{fired_of, acting_of};
 ghost use Rattle.xf_actions.specs.Parts.{work_in, value_in};
@@ -11,6 +12,7 @@ ghost use Rattle.xf_actions.specs.Changed.{changed, doing_of};
 use crate::acting::Acting;
 use crate::choose::{set_index, toggle};
 use crate::delete::delete;
+use crate::fault::EventFault;
 use crate::fired::{Fired, FiredList};
 use crate::insert::insert;
 use crate::note::{load, message, set_focus};
@@ -64,12 +66,13 @@ fn which<W: World>(world: &W, element: u32) -> Doing
 }
 
 /// What the work of an action changes. It gives the events that are told after it.
+#[inline(never)]
 pub fn change<W: World>(
     world: &mut W,
     fired: &Fired,
     acting: &Acting,
-) -> Result<FiredList, W::Fault>
-    ensures done { Makes W.Fault.means (map fired_of) (W.state world.new) result (changed W.profile (acting_of fired.now acting.now) (work_in (act_at (W.state world.old) acting.now.element)) (W.state world.old)) }
+) -> Result<FiredList, EventFault>
+    ensures done { Makes means (map fired_of) (W.state world.new) result (changed W.profile (acting_of fired.now acting.now) (work_in (act_at (W.state world.old) acting.now.element)) (W.state world.old)) }
     ensures kept { W.kept world.new ≡ W.kept world.old }
     ensures form { (W.state world.new).form ≡ (W.state world.old).form }
     ensures calls { (W.state world.new).calls ≡ (W.state world.old).calls }
@@ -104,8 +107,8 @@ pub fn change<W: World>(
 }
 
 /// Has no effect where nothing is bound or the node is readonly.
-fn set_value<W: World>(world: &mut W, fired: &Fired, acting: &Acting) -> Result<(), W::Fault>
-    ensures done { Runs W.Fault.means (W.state world.new) result (value_set W.profile (acting_of fired.now acting.now) (value_in (act_at (W.state world.old) acting.now.element)) (W.state world.old)) }
+fn set_value<W: World>(world: &mut W, fired: &Fired, acting: &Acting) -> Result<(), EventFault>
+    ensures done { Runs means (W.state world.new) result (value_set W.profile (acting_of fired.now acting.now) (value_in (act_at (W.state world.old) acting.now.element)) (W.state world.old)) }
     ensures kept { W.kept world.new ≡ W.kept world.old }
     ensures form { (W.state world.new).form ≡ (W.state world.old).form }
     ensures calls { (W.state world.new).calls ≡ (W.state world.old).calls }
@@ -126,8 +129,8 @@ fn set_node<W: World>(
     fired: &Fired,
     acting: &Acting,
     node: NodeId,
-) -> Result<(), W::Fault>
-    ensures done { Runs W.Fault.means (W.state world.new) result (set_open W.profile (acting_of fired.now acting.now) (value_in (act_at (W.state world.old) acting.now.element)) node.number (W.state world.old)) }
+) -> Result<(), EventFault>
+    ensures done { Runs means (W.state world.new) result (set_open W.profile (acting_of fired.now acting.now) (value_in (act_at (W.state world.old) acting.now.element)) node.number (W.state world.old)) }
     ensures kept { W.kept world.new ≡ W.kept world.old }
     ensures form { (W.state world.new).form ≡ (W.state world.old).form }
     ensures calls { (W.state world.new).calls ≡ (W.state world.old).calls }
@@ -142,8 +145,8 @@ fn value_text<W: World>(
     fired: &Fired,
     acting: &Acting,
     node: NodeId,
-) -> Result<Word, W::Fault>
-    ensures { Reads W.Fault.means (λ w. w) (W.state world.now) result (value_asked W.profile (acting_of fired.now acting.now) (W.state world.now) node.number (value_in (act_at (W.state world.now) acting.now.element))) }
+) -> Result<Word, EventFault>
+    ensures { Reads means (λ w. w) (W.state world.now) result (value_asked W.profile (acting_of fired.now acting.now) (W.state world.now) node.number (value_in (act_at (W.state world.now) acting.now.element))) }
 {
     match action_of(world.form(), acting.element) {
         Some(action) => match &action.work {

@@ -23,6 +23,7 @@ ghost use Rattle.xf_def_machine.specs.Events.{fired as fires, fired_at as fires_
 ghost use Rattle.xf_def_machine.specs.Telling.{loaded_text};
 ghost use Rattle.xf_def_machine.specs.Behave.{model_at, rebuild as rebuilt, recalculate as recalculated, revalidate as revalidated};
 ghost use Rattle.xf_def_machine.specs.Update.{reindex as reindexed, is_due as due, is_refresh_due as refresh_is_due};
+ghost use Rattle.xf_actions.specs.Fault.{means};
 ghost use Rattle.xf_actions.specs.Performs.{Runs, Makes, Reads, LeavesOver};
 ghost use Rattle.xf_actions.specs.Seen.{IsProgram, fired_of, acting_of, focus_of, place_of, concluded_of, ending_of};
 ghost use Rattle.xf_actions.specs.Told.{cleared_by, is_set, refreshed};
@@ -32,7 +33,7 @@ ghost use Rattle.xf_def_machine.specs.Construct.{construct, instances_of, put_ba
 ghost use Rattle.xf_actions.specs.Texts.{bound_for, message_text, settable};
 
 use crate::acting::Acting;
-use crate::fault::WorldFault;
+use crate::fault::EventFault;
 use crate::fired::{Concluded, Ending, Fired, FiredList};
 use crate::place::{Inserting, PlaceList};
 use std::alloc::Global;
@@ -57,18 +58,14 @@ pub trait World {
     ghost use Rattle.xf_def_machine.specs.Profile.{Profile};
     ghost use Rattle.xf_def_machine.specs.State.{State};
 
-    type Fault: WorldFault;
-
     /// What is given beside a form.
     ghost profile: { Profile };
 
     /// The state of the machine that stands.
     ghost state: { Self → State };
 
-    /// What stands again where an event is refused: no call changes it.
-    ghost Kept: { Type 0 };
-
-    ghost kept: { Self → Kept };
+    /// The state that stands again where an event is refused: no call changes it.
+    ghost kept: { Self → State };
 
     fn form(&self) -> &Form
         ensures { IsProgram result.now (state self.now).form };
@@ -77,27 +74,27 @@ pub trait World {
         ensures { result ≡ (state self.now).turns };
 
     /// Spends a turn. It is refused where none is left, and for nothing else.
-    fn spend(&mut self) -> Result<(), Self::Fault>
-        ensures done { Runs Self.Fault.means (state self.new) result (spent (state self.old)) }
-        ensures cause { IfErr result (λ fault. Self.Fault.means fault ≡ Some budget) }
+    fn spend(&mut self) -> Result<(), EventFault>
+        ensures done { Runs means (state self.new) result (spent (state self.old)) }
+        ensures cause { IfErr result (λ fault. means fault ≡ Some budget) }
         ensures kept { kept self.new ≡ kept self.old }
         ensures form { (state self.new).form ≡ (state self.old).form }
         ensures calls { (state self.new).calls ≡ (state self.old).calls };
 
     /// The handlers that an event calls.
-    fn calls(&self, fired: &Fired) -> Result<CallList, Self::Fault>
-        ensures { Reads Self.Fault.means (λ c. c) (state self.now) result (Ok (called_by (interface (state self.now)) (fired_of fired.now).event)) };
+    fn calls(&self, fired: &Fired) -> Result<CallList, EventFault>
+        ensures { Reads means (λ c. c) (state self.now) result (Ok (called_by (interface (state self.now)) (fired_of fired.now).event)) };
 
     /// The actions in an action.
-    fn actions(&self, element: u32) -> Result<ElementList, Self::Fault>
-        ensures { Reads Self.Fault.means (λ c. c) (state self.now) result (Ok (actions_in (interface (state self.now)) element)) };
+    fn actions(&self, element: u32) -> Result<ElementList, EventFault>
+        ensures { Reads means (λ c. c) (state self.now) result (Ok (actions_in (interface (state self.now)) element)) };
 
     /// The action that is this element, called for this event: none where an index is 0 or it has no context node.
-    fn acting(&self, fired: &Fired, element: u32) -> Result<Option<Acting>, Self::Fault>
-        ensures { Reads Self.Fault.means (option_map (acting_of fired.now)) (state self.now) result (acts profile (fired_of fired.now) element (state self.now)) };
+    fn acting(&self, fired: &Fired, element: u32) -> Result<Option<Acting>, EventFault>
+        ensures { Reads means (option_map (acting_of fired.now)) (state self.now) result (acts profile (fired_of fired.now) element (state self.now)) };
 
-    fn truth(&self, fired: &Fired, acting: &Acting, expr: &Expr) -> Result<bool, Self::Fault>
-        ensures { Reads Self.Fault.means (λ b. b) (state self.now) result (truth_for profile (acting_of fired.now acting.now) (state self.now) (meaning expr.now)) };
+    fn truth(&self, fired: &Fired, acting: &Acting, expr: &Expr) -> Result<bool, EventFault>
+        ensures { Reads means (λ b. b) (state self.now) result (truth_for profile (acting_of fired.now acting.now) (state self.now) (meaning expr.now)) };
 
     /// Whether a behaviour of a model is due.
     fn is_due(&self) -> bool
@@ -113,66 +110,66 @@ pub trait World {
     fn is_flagged(&self, model: u32, flag: Flag) -> bool
         ensures { result ≡ is_set flag (model_at (state self.now) model).flags };
 
-    fn rebuild(&mut self, model: u32) -> Result<(), Self::Fault>
-        ensures done { Runs Self.Fault.means (state self.new) result (rebuilt profile model (state self.old)) }
+    fn rebuild(&mut self, model: u32) -> Result<(), EventFault>
+        ensures done { Runs means (state self.new) result (rebuilt profile model (state self.old)) }
         ensures kept { kept self.new ≡ kept self.old }
         ensures form { (state self.new).form ≡ (state self.old).form }
         ensures calls { (state self.new).calls ≡ (state self.old).calls };
 
-    fn recalculate(&mut self, model: u32) -> Result<(), Self::Fault>
-        ensures done { Runs Self.Fault.means (state self.new) result (recalculated profile model (state self.old)) }
+    fn recalculate(&mut self, model: u32) -> Result<(), EventFault>
+        ensures done { Runs means (state self.new) result (recalculated profile model (state self.old)) }
         ensures kept { kept self.new ≡ kept self.old }
         ensures form { (state self.new).form ≡ (state self.old).form }
         ensures calls { (state self.new).calls ≡ (state self.old).calls };
 
-    fn revalidate(&mut self, model: u32) -> Result<(), Self::Fault>
-        ensures done { Runs Self.Fault.means (state self.new) result (Ok (revalidated profile model (state self.old))) }
+    fn revalidate(&mut self, model: u32) -> Result<(), EventFault>
+        ensures done { Runs means (state self.new) result (Ok (revalidated profile model (state self.old))) }
         ensures kept { kept self.new ≡ kept self.old }
         ensures form { (state self.new).form ≡ (state self.old).form }
         ensures calls { (state self.new).calls ≡ (state self.old).calls };
 
     /// Brings the indexes up to date and makes the controls afresh. The refresh of one model is done with that, or that of all. It gives what is
     /// told of the differences.
-    fn refresh(&mut self, model: Option<u32>) -> Result<FiredList, Self::Fault>
-        ensures done { Makes Self.Fault.means (map fired_of) (state self.new) result (refreshed profile (cleared_by model) (state self.old)) }
+    fn refresh(&mut self, model: Option<u32>) -> Result<FiredList, EventFault>
+        ensures done { Makes means (map fired_of) (state self.new) result (refreshed profile (cleared_by model) (state self.old)) }
         ensures kept { kept self.new ≡ kept self.old }
         ensures form { (state self.new).form ≡ (state self.old).form }
         ensures calls { (state self.new).calls ≡ (state self.old).calls };
 
     /// The submission of this number, up to the event that tells its end: the store is called once at most.
-    fn submit<S: Store>(&mut self, submission: u32, store: &mut S) -> Result<Concluded, Self::Fault>
-        ensures done { LeavesOver Self.Fault.means (concluded_of (state self.old).form (state self.new)) (state self.new) result (λ answers. submitted profile answers submission (slice_get (state self.old).form.submissions submission) (state self.old)) }
+    fn submit<S: Store>(&mut self, submission: u32, store: &mut S) -> Result<Concluded, EventFault>
+        ensures done { LeavesOver means (concluded_of (state self.old).form (state self.new)) (state self.new) result (λ answers. submitted profile answers submission (slice_get (state self.old).form.submissions submission) (state self.old)) }
         ensures store { Called (S.calls store.old, S.to_come store.old) (S.calls store.new, S.to_come store.new) (state self.old).calls (state self.new).calls }
         ensures kept { kept self.new ≡ kept self.old }
         ensures form { (state self.new).form ≡ (state self.old).form };
 
     /// The instances of a model.
-    fn instances(&self, model: u32) -> Result<ElementList, Self::Fault>
-        ensures { Reads Self.Fault.means (λ places. places) (state self.now) result (Ok (instances_of (state self.now) model)) };
+    fn instances(&self, model: u32) -> Result<ElementList, EventFault>
+        ensures { Reads means (λ places. places) (state self.now) result (Ok (instances_of (state self.now) model)) };
 
     /// The document element of an instance as construction left it.
-    fn put_back(&mut self, instance: u32) -> Result<(), Self::Fault>
-        ensures done { Runs Self.Fault.means (state self.new) result (instance_put_back profile (construct profile (state self.old).form) instance (state self.old)) }
+    fn put_back(&mut self, instance: u32) -> Result<(), EventFault>
+        ensures done { Runs means (state self.new) result (instance_put_back profile (construct profile (state self.old).form) instance (state self.old)) }
         ensures kept { kept self.new ≡ kept self.old }
         ensures form { (state self.new).form ≡ (state self.old).form }
         ensures calls { (state self.new).calls ≡ (state self.old).calls };
 
     /// The event that tells the end of a submission: none where there is no such submission.
-    fn end_event(&self, ending: &Ending) -> Result<Option<Fired>, Self::Fault>
-        ensures { Reads Self.Fault.means (option_map fired_of) (state self.now) result (Ok (told_by_end (ending_of (state self.now).form ending.now) (state self.now))) };
+    fn end_event(&self, ending: &Ending) -> Result<Option<Fired>, EventFault>
+        ensures { Reads means (option_map fired_of) (state self.now) result (Ok (told_by_end (ending_of (state self.now).form ending.now) (state self.now))) };
 
     fn alloc(&self) -> Global;
 
     /// The node that an action binds.
-    fn bound(&self, fired: &Fired, acting: &Acting) -> Result<Option<NodeId>, Self::Fault>
-        ensures { Reads Self.Fault.means (option_map (λ n. n.number)) (state self.now) result (bound_for profile (acting_of fired.now acting.now) (state self.now)) };
+    fn bound(&self, fired: &Fired, acting: &Acting) -> Result<Option<NodeId>, EventFault>
+        ensures { Reads means (option_map (λ n. n.number)) (state self.now) result (bound_for profile (acting_of fired.now acting.now) (state self.now)) };
 
     fn is_readonly(&self, node: NodeId) -> bool
         ensures { result ≡ readonly_in (state self.now) node.number };
 
     /// Refuses where the node has element children.
-    fn may_set(&self, node: NodeId) -> Result<(), Self::Fault>
-        ensures { Reads Self.Fault.means (λ u. state self.now) (state self.now) result (settable node.number (state self.now)) };
+    fn may_set(&self, node: NodeId) -> Result<(), EventFault>
+        ensures { Reads means (λ u. state self.now) (state self.now) result (settable node.number (state self.now)) };
 
     /// The value of an expression at a node, as a text.
     fn text_at(
@@ -181,25 +178,25 @@ pub trait World {
         acting: &Acting,
         node: NodeId,
         expr: &Expr,
-    ) -> Result<Word, Self::Fault>
-        ensures { Reads Self.Fault.means (λ w. w) (state self.now) result (text_for profile (acting_of fired.now acting.now) (state self.now) (alone node.number) (meaning expr.now)) };
+    ) -> Result<Word, EventFault>
+        ensures { Reads means (λ w. w) (state self.now) result (text_for profile (acting_of fired.now acting.now) (state self.now) (alone node.number) (meaning expr.now)) };
 
     /// The text that stands in an element.
-    fn words(&self, element: u32) -> Result<Word, Self::Fault>
-        ensures { Reads Self.Fault.means (λ w. w) (state self.now) result (Ok (words_of (interface (state self.now)) (element_at (interface (state self.now)) element))) };
+    fn words(&self, element: u32) -> Result<Word, EventFault>
+        ensures { Reads means (λ w. w) (state self.now) result (Ok (words_of (interface (state self.now)) (element_at (interface (state self.now)) element))) };
 
     /// The text of a message.
-    fn message(&self, fired: &Fired, acting: &Acting) -> Result<Word, Self::Fault>
-        ensures { Reads Self.Fault.means (λ w. w) (state self.now) result (message_text profile (acting_of fired.now acting.now) (state self.now)) };
+    fn message(&self, fired: &Fired, acting: &Acting) -> Result<Word, EventFault>
+        ensures { Reads means (λ w. w) (state self.now) result (message_text profile (acting_of fired.now acting.now) (state self.now)) };
 
-    fn set_text(&mut self, node: NodeId, text: &str) -> Result<(), Self::Fault>
-        ensures done { Runs Self.Fault.means (state self.new) result (text_set profile node.number text.now (state self.old)) }
+    fn set_text(&mut self, node: NodeId, text: &str) -> Result<(), EventFault>
+        ensures done { Runs means (state self.new) result (text_set profile node.number text.now (state self.old)) }
         ensures kept { kept self.new ≡ kept self.old }
         ensures form { (state self.new).form ≡ (state self.old).form }
         ensures calls { (state self.new).calls ≡ (state self.old).calls };
 
-    fn add_note(&mut self, note: Note) -> Result<(), Self::Fault>
-        ensures done { Runs Self.Fault.means (state self.new) result (noted profile note (state self.old)) }
+    fn add_note(&mut self, note: Note) -> Result<(), EventFault>
+        ensures done { Runs means (state self.new) result (noted profile note (state self.old)) }
         ensures kept { kept self.new ≡ kept self.old }
         ensures form { (state self.new).form ≡ (state self.old).form }
         ensures calls { (state self.new).calls ≡ (state self.old).calls };
@@ -209,8 +206,8 @@ pub trait World {
     fn parent(&self, element: u32) -> Option<u32>
         ensures { result ≡ (element_at (interface (state self.now)) element).parent };
 
-    fn id(&self, element: u32) -> Result<Word, Self::Fault>
-        ensures { Reads Self.Fault.means (λ w. w) (state self.now) result (Ok (element_at (interface (state self.now)) element).id) };
+    fn id(&self, element: u32) -> Result<Word, EventFault>
+        ensures { Reads means (λ w. w) (state self.now) result (Ok (element_at (interface (state self.now)) element).id) };
 
     /// The elements of the model, the submission and the repeat of this number.
     fn model_element(&self, model: u32) -> u32
@@ -237,12 +234,12 @@ pub trait World {
     // ---- rows and cases
 
     /// The rows of the copy that an id names: none where an index is 0.
-    fn named_copy(&self, element: u32) -> Result<Option<NodeList>, Self::Fault>
-        ensures { Reads Self.Fault.means (λ rows. rows) (state self.now) result (Ok (copy_named (state self.now) element)) };
+    fn named_copy(&self, element: u32) -> Result<Option<NodeList>, EventFault>
+        ensures { Reads means (λ rows. rows) (state self.now) result (Ok (copy_named (state self.now) element)) };
 
     /// The index of a repeat is set, which flags the refresh of the model.
-    fn set_index(&mut self, model: u32, repeat: u32, index: u64) -> Result<(), Self::Fault>
-        ensures done { Runs Self.Fault.means (state self.new) result (index_set profile model repeat index (state self.old)) }
+    fn set_index(&mut self, model: u32, repeat: u32, index: u64) -> Result<(), EventFault>
+        ensures done { Runs means (state self.new) result (index_set profile model repeat index (state self.old)) }
         ensures kept { kept self.new ≡ kept self.old }
         ensures form { (state self.new).form ≡ (state self.old).form }
         ensures calls { (state self.new).calls ≡ (state self.old).calls };
@@ -270,12 +267,12 @@ pub trait World {
         acting: &Acting,
         focus: &Focus,
         expr: &Expr,
-    ) -> Result<Option<i64>, Self::Fault>
-        ensures { Reads Self.Fault.means (λ k. k) (state self.now) result (whole_for profile (acting_of fired.now acting.now) (state self.now) (focus_of focus.now) (meaning expr.now)) };
+    ) -> Result<Option<i64>, EventFault>
+        ensures { Reads means (λ k. k) (state self.now) result (whole_for profile (acting_of fired.now acting.now) (state self.now) (focus_of focus.now) (meaning expr.now)) };
 
     /// The text of what an action binds, else this one.
-    fn loaded(&self, fired: &Fired, acting: &Acting, resource: &str) -> Result<Word, Self::Fault>
-        ensures { Reads Self.Fault.means (λ w. w) (state self.now) result (loaded_text profile (acting_of fired.now acting.now) resource.now (state self.now) (binding_of (acting_of fired.now acting.now) (state self.now))) };
+    fn loaded(&self, fired: &Fired, acting: &Acting, resource: &str) -> Result<Word, EventFault>
+        ensures { Reads means (λ w. w) (state self.now) result (loaded_text profile (acting_of fired.now acting.now) resource.now (state self.now) (binding_of (acting_of fired.now acting.now) (state self.now))) };
 
     // ---- what an insert and a delete ask for
 
@@ -285,8 +282,8 @@ pub trait World {
         fired: &Fired,
         acting: &Acting,
         context: &Option<Expr>,
-    ) -> Result<Option<Focus>, Self::Fault>
-        ensures { Reads Self.Fault.means (option_map focus_of) (state self.now) result (moved_focus profile (acting_of fired.now acting.now) (option_map meaning context.now) (state self.now)) };
+    ) -> Result<Option<Focus>, EventFault>
+        ensures { Reads means (option_map focus_of) (state self.now) result (moved_focus profile (acting_of fired.now acting.now) (option_map meaning context.now) (state self.now)) };
 
     /// The nodes that it binds.
     fn bound_set(
@@ -294,8 +291,8 @@ pub trait World {
         fired: &Fired,
         acting: &Acting,
         focus: &Focus,
-    ) -> Result<NodeList, Self::Fault>
-        ensures { Reads Self.Fault.means (λ ns. ns) (state self.now) result (set_asked profile (acting_of fired.now acting.now) (focus_of focus.now) (state self.now)) };
+    ) -> Result<NodeList, EventFault>
+        ensures { Reads means (λ ns. ns) (state self.now) result (set_asked profile (acting_of fired.now acting.now) (focus_of focus.now) (state self.now)) };
 
     /// The nodes to copy.
     fn origin(
@@ -305,8 +302,8 @@ pub trait World {
         focus: &Focus,
         origin: &Option<Expr>,
         set: &NodeList,
-    ) -> Result<NodeList, Self::Fault>
-        ensures { Reads Self.Fault.means (λ ns. ns) (state self.now) result (origin_asked profile (acting_of fired.now acting.now) (focus_of focus.now) (option_map meaning origin.now) set.now (state self.now)) };
+    ) -> Result<NodeList, EventFault>
+        ensures { Reads means (λ ns. ns) (state self.now) result (origin_asked profile (acting_of fired.now acting.now) (focus_of focus.now) (option_map meaning origin.now) set.now (state self.now)) };
 
     /// The place in the set that the `at` of an insert, and of a delete, names.
     fn insert_place(
@@ -315,8 +312,8 @@ pub trait World {
         acting: &Acting,
         at: &Option<Expr>,
         set: &NodeList,
-    ) -> Result<Option<i64>, Self::Fault>
-        ensures { Reads Self.Fault.means (λ k. k) (state self.now) result (at_inserted profile (acting_of fired.now acting.now) (option_map meaning at.now) set.now (state self.now)) };
+    ) -> Result<Option<i64>, EventFault>
+        ensures { Reads means (λ k. k) (state self.now) result (at_inserted profile (acting_of fired.now acting.now) (option_map meaning at.now) set.now (state self.now)) };
 
     fn delete_place(
         &self,
@@ -324,8 +321,8 @@ pub trait World {
         acting: &Acting,
         at: &Option<Expr>,
         set: &NodeList,
-    ) -> Result<Option<i64>, Self::Fault>
-        ensures { Reads Self.Fault.means (λ k. k) (state self.now) result (at_deleted profile (acting_of fired.now acting.now) (option_map meaning at.now) set.now (state self.now)) };
+    ) -> Result<Option<i64>, EventFault>
+        ensures { Reads means (λ k. k) (state self.now) result (at_deleted profile (acting_of fired.now acting.now) (option_map meaning at.now) set.now (state self.now)) };
 
     /// Where the copies of an insert go, and what is told as its place.
     fn planned_insert(
@@ -335,20 +332,20 @@ pub trait World {
         set: &NodeList,
         origin: &NodeList,
         at: Option<i64>,
-    ) -> Result<PlaceList, Self::Fault>
-        ensures { Reads Self.Fault.means (map place_of) (state self.now) result (Ok (insert_planned (state self.now).forest.nodes (insert_asked (insert_by work.now) (state self.now) (focus_of focus.now) set.now origin.now at))) };
+    ) -> Result<PlaceList, EventFault>
+        ensures { Reads means (map place_of) (state self.now) result (Ok (insert_planned (state self.now).forest.nodes (insert_asked (insert_by work.now) (state self.now) (focus_of focus.now) set.now origin.now at))) };
 
     fn insert_location(
         &self,
         focus: &Focus,
         set: &NodeList,
         at: Option<i64>,
-    ) -> Result<NodeList, Self::Fault>
-        ensures { Reads Self.Fault.means (λ ns. ns) (state self.now) result (Ok (location_of at (focus_of focus.now) set.now)) };
+    ) -> Result<NodeList, EventFault>
+        ensures { Reads means (λ ns. ns) (state self.now) result (Ok (location_of at (focus_of focus.now) set.now)) };
 
     /// The nodes that a delete takes.
-    fn planned_delete(&self, set: &NodeList, at: Option<i64>) -> Result<NodeList, Self::Fault>
-        ensures { Reads Self.Fault.means (λ ns. ns) (state self.now) result (Ok (delete_planned (state self.now).forest.nodes (delete_asked (state self.now) set.now at))) };
+    fn planned_delete(&self, set: &NodeList, at: Option<i64>) -> Result<NodeList, EventFault>
+        ensures { Reads means (λ ns. ns) (state self.now) result (Ok (delete_planned (state self.now).forest.nodes (delete_asked (state self.now) set.now at))) };
 
     // ---- trees
 
@@ -357,29 +354,29 @@ pub trait World {
         ensures { result ≡ holding_instance (state self.now) node.number };
 
     /// A copy of a tree comes as a detached one.
-    fn copy(&mut self, node: NodeId) -> Result<NodeId, Self::Fault>
-        ensures done { Makes Self.Fault.means (λ n. n.number) (state self.new) result (copied profile node.number (state self.old)) }
+    fn copy(&mut self, node: NodeId) -> Result<NodeId, EventFault>
+        ensures done { Makes means (λ n. n.number) (state self.new) result (copied profile node.number (state self.old)) }
         ensures kept { kept self.new ≡ kept self.old }
         ensures form { (state self.new).form ≡ (state self.old).form }
         ensures calls { (state self.new).calls ≡ (state self.old).calls };
 
     /// A detached tree comes below a parent, behind so many children.
-    fn attach(&mut self, node: NodeId, parent: NodeId, place: usize) -> Result<(), Self::Fault>
-        ensures done { Runs Self.Fault.means (state self.new) result (attached profile node.number parent.number place (state self.old)) }
+    fn attach(&mut self, node: NodeId, parent: NodeId, place: usize) -> Result<(), EventFault>
+        ensures done { Runs means (state self.new) result (attached profile node.number parent.number place (state self.old)) }
         ensures kept { kept self.new ≡ kept self.old }
         ensures form { (state self.new).form ≡ (state self.old).form }
         ensures calls { (state self.new).calls ≡ (state self.old).calls };
 
     /// A tree is cut off its parent.
-    fn detach(&mut self, node: NodeId) -> Result<(), Self::Fault>
-        ensures done { Runs Self.Fault.means (state self.new) result (Ok (detached node.number (state self.old))) }
+    fn detach(&mut self, node: NodeId) -> Result<(), EventFault>
+        ensures done { Runs means (state self.new) result (Ok (detached node.number (state self.old))) }
         ensures kept { kept self.new ≡ kept self.old }
         ensures form { (state self.new).form ≡ (state self.old).form }
         ensures calls { (state self.new).calls ≡ (state self.old).calls };
 
     /// The indexes are brought up to date where these nodes were just inserted.
-    fn reindex(&mut self, added: &NodeList) -> Result<(), Self::Fault>
-        ensures done { Runs Self.Fault.means (state self.new) result (reindexed profile added.now (state self.old)) }
+    fn reindex(&mut self, added: &NodeList) -> Result<(), EventFault>
+        ensures done { Runs means (state self.new) result (reindexed profile added.now (state self.old)) }
         ensures kept { kept self.new ≡ kept self.old }
         ensures form { (state self.new).form ≡ (state self.old).form }
         ensures calls { (state self.new).calls ≡ (state self.old).calls };
@@ -394,8 +391,8 @@ pub trait World {
         is_cancelable: bool,
         target: u32,
         rows: &NodeList,
-    ) -> Result<Fired, Self::Fault>
-        ensures { Reads Self.Fault.means fired_of (state self.now) result (Ok (fires name.now bubbles is_cancelable [] target rows.now)) };
+    ) -> Result<Fired, EventFault>
+        ensures { Reads means fired_of (state self.now) result (Ok (fires name.now bubbles is_cancelable [] target rows.now)) };
 
     /// The event that an insert, and a delete, tells an instance.
     fn insert_event(
@@ -403,8 +400,8 @@ pub trait World {
         instance: usize,
         inserting: &Inserting,
         tops: &NodeList,
-    ) -> Result<Fired, Self::Fault>
-        ensures { Reads Self.Fault.means fired_of (state self.now) result (Ok (instance_event (codes "xforms-insert") (insert_told (state self.now) inserting.now.is_before tops.now (map (λ q. q.origin) (map place_of inserting.now.places)) inserting.now.location) instance (state self.now))) };
+    ) -> Result<Fired, EventFault>
+        ensures { Reads means fired_of (state self.now) result (Ok (instance_event (codes "xforms-insert") (insert_told (state self.now) inserting.now.is_before tops.now (map (λ q. q.origin) (map place_of inserting.now.places)) inserting.now.location) instance (state self.now))) };
 
     fn delete_event(
         &self,
@@ -412,10 +409,10 @@ pub trait World {
         nodes: &NodeList,
         set: &NodeList,
         at: Option<i64>,
-    ) -> Result<Fired, Self::Fault>
-        ensures { Reads Self.Fault.means fired_of (state self.now) result (Ok (instance_event (codes "xforms-delete") (delete_told (state self.now) nodes.now (delete_location (state self.now).form.decimals set.now at)) instance (state self.now))) };
+    ) -> Result<Fired, EventFault>
+        ensures { Reads means fired_of (state self.now) result (Ok (instance_event (codes "xforms-delete") (delete_told (state self.now) nodes.now (delete_location (state self.now).form.decimals set.now at)) instance (state self.now))) };
 
     /// An event to an element in the indexed rows.
-    fn event_at(&self, name: &str, target: u32) -> Result<Fired, Self::Fault>
-        ensures { Reads Self.Fault.means fired_of (state self.now) result (Ok (fires_at (state self.now) name.now [] target)) };
+    fn event_at(&self, name: &str, target: u32) -> Result<Fired, EventFault>
+        ensures { Reads means fired_of (state self.now) result (Ok (fires_at (state self.now) name.now [] target)) };
 }
