@@ -21,8 +21,8 @@ use Rattle.xf_def_form.specs.Formed.{profile}
 use Rattle.xf_engine.specs.declared.naming.Wanted.{Wanted}
 use Rattle.xf_engine.specs.declared.naming.Wanted.TheVariants.{Entry, Trigger, Repeat, Submission, Any}
 use Rattle.xf_engine.specs.Naming.{wanted_in}
-use Rattle.xf_engine.specs.Tried.{activation_tried, index_tried, node_tried}
-use Rattle.xf_engine.proofs.Flow.{then-next}
+use Rattle.xf_engine_machine.specs.Tried.{activation_tried, index_tried, node_tried}
+use Rattle.xf_engine.proofs.Then.{then-next}
 
 -- ---- what an event names
 
@@ -36,11 +36,6 @@ set-tried true b k s bound take next last = refl
 set-tried false true k s bound take next last = refl
 set-tried false false true s bound take next last = refl
 set-tried false false false s bound take next last = refl
-
--- where no copy stands in the rows, nothing is tried
-pub node-uncopied : (s : State) (n : ℕ) (rows text : List ℕ) (why : Option Refusal) (calls : List StoreCall)
-    → Refuses why calls (copy_named profile s n rows) → Refuses why calls (node_tried profile n rows text s)
-node-uncopied s n rows text why calls r = refuses-then why calls (copy_named profile s n rows) (λ c. try_set n c text s >>= λ t. Ok c.node) r
 
 -- ---- the text of a node
 
@@ -58,11 +53,6 @@ activate-tried : (a : Bool) (s : State) (take settled : Run) (last : Fired → R
     → unless a disabled s >>= take >>= settled >>= last e ≡ unless a disabled s >>= (λ t. Ok e) >>= (λ x. take s >>= settled >>= last x)
 activate-tried true s take settled last e = refl
 activate-tried false s take settled last e = refl
-
-pub activation-uncopied : (s : State) (n : ℕ) (rows : List ℕ) (why : Option Refusal) (calls : List StoreCall)
-    → Refuses why calls (copy_named profile s n rows) → Refuses why calls (activation_tried profile n rows s)
-activation-uncopied s n rows why calls r =
-    refuses-then why calls (copy_named profile s n rows) (λ c. unless (not c.enabled) disabled s >>= λ t. Ok (plainly (codes "DOMActivate") n c.rows)) r
 
 -- ---- an index is set
 

@@ -1,7 +1,4 @@
-pub mod Flow
-pub mod Keeps
-pub mod FormFaults
-pub mod ConstructionLaws
+pub mod Then
 pub mod NamingLaws
 pub mod RowLaws
 pub mod EventLaws

@@ -20,8 +20,8 @@ use Rattle.xf_def_machine.specs.Tables.{role_of}
 use Rattle.xf_def_machine.specs.Targets.{by_role, element_named, is_entry, is_model, is_repeat_in, is_some_text, is_submission, is_trigger, or_no_target}
 use Rattle.xf_actions.specs.Performs.{Reads, RefusedAs, Refuses}
 use Rattle.xf_actions.specs.Seen.{IsProgram}
-use Rattle.xf_engine_world.specs.declared.fault.EventFault.{EventFault}
-use Rattle.xf_engine_world.specs.Fault.{means}
+use Rattle.xf_actions.specs.declared.fault.EventFault.{EventFault}
+use Rattle.xf_actions.specs.Fault.{means}
 use Rattle.xf_engine.specs.declared.naming.Wanted.{Wanted}
 use Rattle.xf_engine.specs.declared.naming.Wanted.TheVariants.{Entry, Trigger, Repeat, Model, Submission, Any}
 use Rattle.xf_engine.specs.Naming.{is_named, is_wanted, named_from, wanted_in}

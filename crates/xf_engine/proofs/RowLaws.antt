@@ -20,8 +20,8 @@ use Rattle.xf_actions.specs.Performs.{Refuses}
 use Rattle.xf_actions.specs.Seen.{IsProgram}
 use Rattle.xf_actions.proofs.Flow.{refuses-then, same-refuses}
 use Rattle.xf_def_form.specs.Formed.{profile}
-use Rattle.xf_engine.specs.Tried.{row_taken}
-use Rattle.xf_engine.proofs.Flow.{then-next}
+use Rattle.xf_engine.specs.Rows.{row_taken}
+use Rattle.xf_engine.proofs.Then.{then-next}
 
 -- ---- the model in scope
 
@@ -80,8 +80,3 @@ pub one-taken : (s t : State) (repeats numbers : List ℕ) (d e model : ℕ) →
 one-taken s t repeats numbers d e model h i m q =
     first-taken s repeats numbers d e model h i m
     ∙ then-next (set_index profile model (get_or repeats 0 d) (get_or numbers 0 e) s) (taken_after repeats numbers) t q
-
--- ---- the sort of an element
-
-pub no-sort : (form : Form) (s : State) (n : ℕ) → IsProgram form s.form → None ≡ slice_get form.elements n → (element_at (interface s) n).sort ≡ host
-no-sort form s n h is = ap (λ (f : Interface). (element_at f n).sort) h.interface ∙ ap (λ (x : ui.Element). x.sort) (no-element form n is)

@@ -1,5 +1,5 @@
 -- What a form at work makes of an event that is pending then, and how that is kept or taken back.
-use Rattle.std.proofs.Common.{ℕ, ◌≡◌, ◌≤◌, ◌++◌, ◌&&◌, Bool, true, false, cond, length, Result, List, [], ◌∷◌, Option, Some, None, option_map, Ok, Err, refl, sym, ap, subst, ◌∙◌}
+use Rattle.std.proofs.Common.{ℕ, ◌≡◌, ◌≤◌, ◌++◌, ◌&&◌, Bool, true, false, cond, length, Result, List, [], ◌∷◌, Option, Some, None, Ok, Err, refl, sym, ap, subst, ◌∙◌}
 use Rattle.std.specs.Prelude.{IfOk, IsSome, IsTrue}
 use Rattle.std.specs.List.{list_all}
 use Rattle.std.proofs.lemmas.Bool.{le-leb}
@@ -13,30 +13,23 @@ use Rattle.xf_store.specs.Called.{Called, Told}
 use Rattle.xf_store.specs.Replies.{is_short}
 use Rattle.xf_journal.specs.Entry.{is_within}
 use Rattle.xf_line.specs.declared.event.Event.{Event}
+use Rattle.xf_def_machine.specs.Refusal.{Refused}
 use Rattle.xf_def_machine.specs.Replies.{answers_in, note_lines}
 use Rattle.xf_def_machine.specs.State.{State}
 use Rattle.xf_def_machine.specs.Start.{readied}
 use Rattle.xf_def_machine.specs.Step.{Outcome, accepted, outcome, posted, at_end, fresh, one_more, step, changed_by}
 use Rattle.xf_def_form.specs.Formed.{profile}
+use Rattle.xf_actions.specs.declared.fault.EventFault.{EventFault}
+use Rattle.xf_actions.specs.declared.fault.EventFault.TheVariants as fault
+use Rattle.xf_actions.specs.Fault.{means}
 use Rattle.xf_actions.specs.Performs.{Refuses}
-use Rattle.xf_session.specs.declared.fault.EventFault as session
-use Rattle.xf_session.specs.declared.fault.EventFault.TheVariants as pending
 use Rattle.xf_session.specs.Processing.{IsRefusedAfter, Posts, Starts, kept_after}
-use Rattle.xf_engine_state.specs.Does.{Stage}
-use Rattle.xf_engine_state.specs.Standing.{Standing}
-use Rattle.xf_engine_state.specs.Standing as work
-use Rattle.xf_engine_world.specs.declared.fault.EventFault.{EventFault}
-use Rattle.xf_engine_world.specs.declared.fault.EventFault.TheVariants as fault
-use Rattle.xf_engine_world.specs.declared.form_world.FormWorld.{FormWorld}
-use Rattle.xf_engine_world.specs.Fault.{means}
-use Rattle.xf_engine_world.specs.Outside.{IsKept, standing_of}
-use Rattle.xf_engine_world.specs.State.{kept_of, state_of}
-use Rattle.xf_engine.specs.Handled.{HandlesOver, IsAtEnd, IsStopped}
-use Rattle.xf_engine.specs.Running.{IsAtRest, Pending, pending_in, session_fault}
-use Rattle.xf_engine.proofs.EngineLaws.{IsCovered, accepted-as, again, answers_of, back, called-anew, changed_over, ended, ends, refused-outcome, step-is}
+use Rattle.xf_engine.specs.Handled.{HandlesOver}
+use Rattle.xf_engine.specs.Running.{AtWork, IsAtRest, calls_in, kept_in, shown_in}
+use Rattle.xf_engine.proofs.EngineLaws.{accepted-as, refused-outcome}
 use Rattle.xf_engine.proofs.Told.{refused-for}
 
--- ---- no tree is detached
+-- ---- at rest
 
 whole-twice : (nodes : List Node) → in_instances (in_instances nodes) ≡ in_instances nodes
 whole-twice [] = refl
@@ -50,140 +43,127 @@ ended-twice : (s : State) → at_end profile (at_end profile s) ≡ at_end profi
 ended-twice s = ap (λ nodes. fresh profile (record s { forest = record s.forest { nodes = nodes } })) (whole-twice s.forest.nodes)
 
 -- what is kept at the end of an event
-pub rests : (mid after : FormWorld) → IsKept mid after → IsAtRest after
-rests mid after k =
-    let last = ends mid after k in
-    record { ended = ended mid after k; whole = ap (at_end profile) (sym last) ∙ ended-twice (state_of mid) ∙ last }
+pub rests : (mid after kept : State) → after ≡ at_end profile mid → kept ≡ after → IsAtRest after kept
+rests mid after kept now k = record { whole = ap (at_end profile) now ∙ ended-twice mid ∙ sym now; stands = k }
 
--- ---- what is pending is kept, or taken back
+-- nothing is pending
+pub not-pending : (b : Bool) (kept : State) → kept_in b kept ≡ None → b ≡ false
+not-pending true kept e = cc
+not-pending false kept e = refl
 
--- the state that is shown, that of what is given back, and the calls, by whether an event is pending
-abbrev pub shown : Bool → FormWorld → State
-shown b w = work.state_of (pending_in b w).now
+pub is-pending : (b : Bool) (kept : State) → IsSome (kept_in b kept) → b ≡ true
+is-pending true kept e = refl
+is-pending false kept e = absurd (let never : false ≡ true = e in cc)
 
-abbrev pub back_of : Bool → FormWorld → Option State
-back_of b w = option_map work.state_of (pending_in b w).kept
+-- ---- what contracts see of it
 
-pub kept-same : (mid after : FormWorld) → IsKept mid after → shown false after ≡ shown true mid
-kept-same mid after k = sym (ends mid after k)
+module _ {W : Type 0} (kept : W → State) (v : AtWork W) (b : Bool) (w : W) (view : record { world = w; is_pending = b } ≡ v) where
+  pub idle-seen : kept_in v.is_pending (kept v.world) ≡ None → kept_in b (kept w) ≡ None
+  idle-seen h = subst (λ (u : AtWork W). kept_in u.is_pending (kept u.world) ≡ None) (sym view) h
 
--- what was kept stands again, and is kept
-pub taken-back : (b : Bool) (before mid after : FormWorld) → IsSome (back_of b before) → state_of mid ≡ work.state_of (kept_of before).standing → IsKept mid after
-    → back_of b before ≡ Some (shown false after)
-taken-back true before mid after some e k = ap Some (ap (at_end profile) (sym e) ∙ ends mid after k)
-taken-back false before mid after some e k = absurd (let never : false ≡ true = some in cc)
+  pub some-seen : IsSome (kept_in v.is_pending (kept v.world)) → IsSome (kept_in b (kept w))
+  some-seen h = subst (λ (u : AtWork W). IsSome (kept_in u.is_pending (kept u.world))) (sym view) h
 
 -- ---- an event
 
--- after a refusal what stood stands again
-pub rests-again : (before mid after : FormWorld) → IsAtRest before → kept_of mid ≡ kept_of before → state_of after ≡ work.state_of (kept_of mid).standing
-    → standing_of after ≡ (kept_of mid).standing → kept_of after ≡ kept_of mid → IsAtRest after
-rests-again before mid after rest k plain now kept = record {
-  ended = back before mid after rest.ended k plain now kept;
-  whole = subst (λ (s : Standing). at_end profile (work.state_of s) ≡ work.state_of s) (sym (again before mid after rest.ended k now)) rest.whole;
-}
+abbrev pub IsCovered : State → Type 0
+IsCovered s = Covers (answers_in s.calls) s.calls
 
--- what is given back where it is pending
-pub given-back : (before mid : FormWorld) → IsAtRest before → kept_of mid ≡ kept_of before → back_of true mid ≡ Some (work.state_of (standing_of before))
-given-back before mid rest k =
-    ap (λ (s : Stage). Some (at_end profile (work.state_of s.standing))) k ∙ ap (λ (s : Standing). Some (at_end profile (work.state_of s))) rest.ended.kept ∙ ap Some rest.whole
+-- what the machine does over these
+abbrev pub changed_over : Event → State → List Answer → Result State Refused
+changed_over event s answers = changed_by profile answers event s
 
-pub posts : (before mid : FormWorld) (event : Event) (count : ℕ) (first last : Told) (old new : List ℕ) → IsAtRest before
-    → Called first last (state_of before).calls (state_of mid).calls → IsCovered mid
-    → HandlesOver (Ok count) (state_of mid) old new (changed_over event (state_of before))
-    → Posts (Ok tt) (work.state_of (standing_of before)) (shown true mid) (pending_in true mid).calls first last old new (step profile (work.state_of (standing_of before)) event)
-posts before mid event count first last old new rest called covered h = record {
-  made = (state_of mid).calls;
-  called = called-anew before first last (state_of mid).calls rest.ended called;
+-- nothing is left of the event before
+clean : (before : State) → at_end profile before ≡ before → fresh profile before ≡ before
+clean before e = ap (fresh profile) (sym e) ∙ e
+
+-- the event begins with a whole budget
+step-is : (before : State) (event : Event) (answers : List Answer) → at_end profile before ≡ before
+    → step profile before event answers ≡ outcome (λ t. one_more (at_end profile t)) (changed_by profile answers event before)
+step-is before event answers e = ap (λ t. outcome (λ t. one_more (at_end profile t)) (changed_by profile answers event t)) (clean before e)
+
+-- and without a call of the store
+called-anew : (before : State) (first last : Told) (made : List StoreCall) → at_end profile before ≡ before → Called first last before.calls made → Called first last [] made
+called-anew before first last made e called = subst (λ calls. Called first last calls made) (sym (ap (λ (s : State). s.calls) e)) called
+
+posts-whole : (before mid : State) (event : Event) (count : ℕ) (first last : Told) (old new : List ℕ) → at_end profile before ≡ before
+    → Called first last before.calls mid.calls → IsCovered mid → HandlesOver (Ok count) mid old new (changed_over event before)
+    → Posts (Ok tt) before (at_end profile mid) mid.calls first last old new (step profile before event)
+posts-whole before mid event count first last old new whole called covered h = record {
+  made = mid.calls;
+  called = called-anew before first last mid.calls whole called;
   own = covered;
   pending = λ e. refl;
   is = λ answers c.
-      let a = accepted-as (changed_by profile answers event (state_of before)) (state_of mid) count old new (h answers c) in
-      (a.0, record { is = step-is before event answers rest.ended ∙ a.1.is; calls = a.1.calls }, a.3);
+      let a = accepted-as (changed_by profile answers event before) mid count old new (h answers c) in
+      (a.0, record { is = step-is before event answers whole ∙ a.1.is; calls = a.1.calls }, a.2);
 }
 
-pub unposts : (before mid after : FormWorld) (event : Event) (e : EventFault) (first last : Told) (old new : List ℕ) → IsAtRest before
-    → Called first last (state_of before).calls (state_of mid).calls → IsCovered mid
-    → HandlesOver (Err e) (state_of mid) old new (changed_over event (state_of before)) → kept_of mid ≡ kept_of before
-    → standing_of after ≡ (kept_of mid).standing
-    → Posts (Err (session_fault e)) (work.state_of (standing_of before)) (shown false after) (pending_in false after).calls first last old new (step profile (work.state_of (standing_of before)) event)
-unposts before mid after event (fault.Refused refusal) first last old new rest called covered h k now = record {
-  made = (state_of mid).calls;
-  called = called-anew before first last (state_of mid).calls rest.ended called;
+unposts-whole : (before mid after : State) (event : Event) (e : EventFault) (first last : Told) (old new : List ℕ) → at_end profile before ≡ before
+    → Called first last before.calls mid.calls → IsCovered mid → HandlesOver (Err e) mid old new (changed_over event before) → after ≡ before
+    → Posts (Err e) before after [] first last old new (step profile before event)
+unposts-whole before mid after event (fault.Refused refusal) first last old new whole called covered h same = record {
+  made = mid.calls;
+  called = called-anew before first last mid.calls whole called;
   own = covered;
   pending = λ e. absurd (cc);
   is = λ answers c. (
-    subst (λ (o : Outcome). IsRefusedAfter refusal (state_of mid).calls o) (sym (step-is before event answers rest.ended))
-        (refused-outcome refusal (state_of mid).calls (λ t. one_more (at_end profile t)) (changed_by profile answers event (state_of before)) (h answers c)),
-    ap work.state_of (again before mid after rest.ended k now),
+    subst (λ (o : Outcome). IsRefusedAfter refusal mid.calls o) (sym (step-is before event answers whole))
+        (refused-outcome refusal mid.calls (λ t. one_more (at_end profile t)) (changed_by profile answers event before) (h answers c)),
+    same,
   );
 }
-unposts before mid after event fault.Memory first last old new rest called covered h k now = record {
-  made = (state_of mid).calls;
-  called = called-anew before first last (state_of mid).calls rest.ended called;
+unposts-whole before mid after event fault.Memory first last old new whole called covered h same = record {
+  made = mid.calls;
+  called = called-anew before first last mid.calls whole called;
   own = covered;
   pending = λ e. absurd (cc);
-  is = λ answers c. ap work.state_of (again before mid after rest.ended k now);
+  is = λ answers c. same;
 }
 
--- ---- the same by what a session sees
+-- ---- the same where none was pending
 
-module _ (v : Pending) (b : Bool) (before : FormWorld) (view : pending_in b before ≡ v) (idle : option_map work.state_of v.kept ≡ None) (rest : b ≡ false → IsAtRest before) where
-  not-pending : (b : Bool) → option_map work.state_of (pending_in b before).kept ≡ None → b ≡ false
-  not-pending true e = absurd (cc)
-  not-pending false e = refl
+module _ (b : Bool) (before kept : State) (idle : kept_in b kept ≡ None) (rest : b ≡ false → IsAtRest before kept) where
+  no : b ≡ false
+  no = not-pending b kept idle
 
-  pub is-idle : b ≡ false
-  is-idle = not-pending b (ap (λ (p : Pending). option_map work.state_of p.kept) view ∙ idle)
+  at_rest : IsAtRest before kept
+  at_rest = rest no
 
-  pub seen : pending_in false before ≡ v
-  seen = ap (λ (c : Bool). pending_in c before) (sym is-idle) ∙ view
+  pub posts : (mid : State) (event : Event) (count : ℕ) (first last : Told) (old new : List ℕ)
+      → Called first last before.calls mid.calls → IsCovered mid → HandlesOver (Ok count) mid old new (changed_over event before)
+      → Posts (Ok tt) (shown_in b before) (shown_in true mid) (calls_in true mid) first last old new (step profile (shown_in b before) event)
+  posts mid event count first last old new called covered h =
+      subst (λ c. Posts (Ok tt) (shown_in c before) (shown_in true mid) (calls_in true mid) first last old new (step profile (shown_in c before) event)) (sym no)
+      (posts-whole before mid event count first last old new at_rest.whole called covered h)
 
-  pub posts-so : (mid : FormWorld) (event : Event) (count : ℕ) (first last : Told) (old new : List ℕ)
-      → Called first last (state_of before).calls (state_of mid).calls → IsCovered mid
-      → HandlesOver (Ok count) (state_of mid) old new (changed_over event (state_of before))
-      → Posts (Ok tt) (work.state_of v.now) (shown true mid) (pending_in true mid).calls first last old new (step profile (work.state_of v.now) event)
-  posts-so mid event count first last old new called covered h =
-      subst (λ (p : Pending). Posts (Ok tt) (work.state_of p.now) (shown true mid) (pending_in true mid).calls first last old new (step profile (work.state_of p.now) event)) seen
-      (posts before mid event count first last old new (rest is-idle) called covered h)
+  pub given-back : (mid-kept : State) → mid-kept ≡ kept → kept_in true mid-kept ≡ kept_after (Ok tt) (shown_in b before)
+  given-back mid-kept k =
+      ap (λ s. Some (at_end profile s)) (k ∙ at_rest.stands) ∙ ap (λ s. Some s) at_rest.whole ∙ ap (λ c. Some (shown_in c before)) (sym no)
 
-  pub given-so : (mid : FormWorld) → kept_of mid ≡ kept_of before → back_of true mid ≡ kept_after (Ok tt) (work.state_of v.now)
-  given-so mid k = given-back before mid (rest is-idle) k ∙ ap (λ (p : Pending). Some (work.state_of p.now)) seen
+  pub unposts : (mid mid-kept after : State) (event : Event) (e : EventFault) (first last : Told) (old new : List ℕ)
+      → Called first last before.calls mid.calls → IsCovered mid → HandlesOver (Err e) mid old new (changed_over event before) → mid-kept ≡ kept → after ≡ mid-kept
+      → Posts (Err e) (shown_in b before) (shown_in b after) (calls_in b after) first last old new (step profile (shown_in b before) event)
+  unposts mid mid-kept after event e first last old new called covered h k now =
+      subst (λ c. Posts (Err e) (shown_in c before) (shown_in c after) (calls_in c after) first last old new (step profile (shown_in c before) event)) (sym no)
+      (unposts-whole before mid after event e first last old new at_rest.whole called covered h (now ∙ k ∙ at_rest.stands))
 
-  pub unposts-so : (mid after : FormWorld) (event : Event) (e : EventFault) (r : session.EventFault) (first last : Told) (old new : List ℕ)
-      → Called first last (state_of before).calls (state_of mid).calls → IsCovered mid
-      → HandlesOver (Err e) (state_of mid) old new (changed_over event (state_of before)) → kept_of mid ≡ kept_of before
-      → standing_of after ≡ (kept_of mid).standing → r ≡ session_fault e
-      → Posts (Err r) (work.state_of v.now) (shown b after) (pending_in b after).calls first last old new (step profile (work.state_of v.now) event)
-  unposts-so mid after event e r first last old new called covered h k now same =
-      subst (λ (f : session.EventFault). Posts (Err f) (work.state_of v.now) (shown b after) (pending_in b after).calls first last old new (step profile (work.state_of v.now) event)) (sym same)
-      (subst (λ (c : Bool). Posts (Err (session_fault e)) (work.state_of v.now) (shown c after) (pending_in c after).calls first last old new (step profile (work.state_of v.now) event)) (sym is-idle)
-      (subst (λ (p : Pending). Posts (Err (session_fault e)) (work.state_of p.now) (shown false after) (pending_in false after).calls first last old new (step profile (work.state_of p.now) event)) seen
-      (unposts before mid after event e first last old new (rest is-idle) called covered h k now)))
+  pub none-given : (after-kept : State) → kept_in b after-kept ≡ None
+  none-given after-kept = ap (λ c. kept_in c after-kept) no
 
-  pub rests-so : (mid after : FormWorld) → kept_of mid ≡ kept_of before → state_of after ≡ work.state_of (kept_of mid).standing
-      → standing_of after ≡ (kept_of mid).standing → kept_of after ≡ kept_of mid → IsAtRest after
-  rests-so mid after k plain now kept = rests-again before mid after (rest is-idle) k plain now kept
-
-  pub none-so : (after : FormWorld) → back_of b after ≡ None
-  none-so after = ap (λ (c : Bool). back_of c after) is-idle
+  -- what is shown is what stands
+  pub shown-so : shown_in b before ≡ before
+  shown-so = ap (λ c. shown_in c before) no
 
 -- ---- what is pending
 
-module _ (v : Pending) (b : Bool) (before : FormWorld) (view : pending_in b before ≡ v) (some : IsSome (option_map work.state_of v.kept)) where
-  pub taken-so : (mid after : FormWorld) → state_of mid ≡ work.state_of (kept_of before).standing → IsKept mid after
-      → option_map work.state_of v.kept ≡ Some (shown false after)
-  taken-so mid after e k =
-      subst (λ (p : Pending). IsSome (option_map work.state_of p.kept) → option_map work.state_of p.kept ≡ Some (shown false after)) view
-      (λ given. taken-back b before mid after given e k) some
+-- what was kept stands again, and is kept
+pub taken-back : (b : Bool) (kept mid after : State) → IsSome (kept_in b kept) → mid ≡ kept → after ≡ at_end profile mid → kept_in b kept ≡ Some (shown_in false after)
+taken-back b kept mid after some e now =
+    ap (λ c. kept_in c kept) (is-pending b kept some) ∙ ap (λ s. Some (at_end profile s)) (sym e) ∙ ap (λ s. Some s) (sym now)
 
-  calls-by : (b : Bool) → IsSome (back_of b before) → (state_of before).calls ≡ (pending_in b before).calls
-  calls-by true given = refl
-  calls-by false given = absurd (let never : false ≡ true = given in cc)
-
-  pub calls-so : (state_of before).calls ≡ v.calls
-  calls-so =
-      subst (λ (p : Pending). IsSome (option_map work.state_of p.kept) → (state_of before).calls ≡ p.calls) view (calls-by b) some
+pub calls-so : (b : Bool) (before kept : State) → IsSome (kept_in b kept) → before.calls ≡ calls_in b before
+calls-so b before kept some = ap (λ c. calls_in c before) (sym (is-pending b kept some))
 
 -- few answers, of which none is long, may stand in an entry of a journal
 pub is-within : (answers : List Answer) → length answers ≤ answer_limit → IsTrue (list_all is_short answers) → IsTrue (is_within [] answers)
@@ -196,49 +176,50 @@ are-within (Err e) calls h few short = tt
 
 -- ---- the start
 
-module _ {R : Type 0} (state : R → State) (kept : R → Option State) (calls : R → List StoreCall) where
-  pub started-pending : (started : R) (before : Standing) (first mid : FormWorld) (told last : Told) (old new : List ℕ) → state started ≡ shown true mid
-      → kept started ≡ back_of true mid → calls started ≡ (pending_in true mid).calls → state_of first ≡ work.state_of before
-      → Called told last [] (state_of mid).calls → IsCovered mid → ((answers : List Answer) → Covers answers (state_of mid).calls → readied profile answers (state_of first) ≡ Ok (state_of mid))
-      → new ≡ old ++ note_lines (state_of mid).notes → Starts state kept calls (Ok started) (work.state_of before) told last old new
-  started-pending started before first mid told last old new s k m f called covered e w = record {
-    made = (state_of mid).calls;
+module _ {R : Type 0} (state : R → State) (kept : R → Option State) (calls : R → List StoreCall) (before mid : State) where
+  pub started-pending : (r : R) (told last : Told) (old new : List ℕ) (given : State) → state r ≡ shown_in true mid → kept r ≡ kept_in true given → calls r ≡ calls_in true mid
+      → Called told last [] mid.calls → IsCovered mid → ((answers : List Answer) → Covers answers mid.calls → readied profile answers before ≡ Ok mid)
+      → new ≡ old ++ note_lines mid.notes → Starts state kept calls (Ok r) before told last old new
+  started-pending r told last old new given s k m called covered e w = record {
+    made = mid.calls;
     called = called;
     own = covered;
     pending = (subst IsSome (sym k) refl, m);
     is = λ answers c. (
-      posted (state_of mid),
-      record {
-        is =
-            ap (λ s. outcome (at_end profile) (readied profile answers s)) (sym f) ∙ ap (outcome (at_end profile)) (e answers c)
-            ∙ ap (λ x. accepted x (posted (state_of mid))) (sym s);
-        calls = refl;
-      },
+      posted mid,
+      record { is = ap (outcome (at_end profile)) (e answers c) ∙ ap (λ x. accepted x (posted mid)) (sym s); calls = refl },
       w,
     );
   }
 
-  pub not-started : (before : Standing) (first mid : FormWorld) (e : EventFault) (told last : Told) (old new : List ℕ) → state_of first ≡ work.state_of before
-      → Called told last [] (state_of mid).calls → IsCovered mid
-      → ((answers : List Answer) → Covers answers (state_of mid).calls → Refuses (means e) (state_of mid).calls (readied profile answers (state_of first)))
-      → Starts state kept calls (Err (session_fault e)) (work.state_of before) told last old new
-  not-started before first mid (fault.Refused refusal) told last old new f called covered h = record {
-    made = (state_of mid).calls;
+  pub not-started : (e : EventFault) (told last : Told) (old new : List ℕ) → Called told last [] mid.calls → IsCovered mid
+      → ((answers : List Answer) → Covers answers mid.calls → Refuses (means e) mid.calls (readied profile answers before))
+      → Starts state kept calls (Err e) before told last old new
+  not-started (fault.Refused refusal) told last old new called covered h = record {
+    made = mid.calls;
     called = called;
     own = covered;
     pending = tt;
     is = λ answers c.
-        refused-outcome refusal (state_of mid).calls (at_end profile) (readied profile answers (work.state_of before))
-        (subst (λ s. IsStopped refusal (state_of mid).calls (readied profile answers s)) f
-        (refused-for refusal (state_of mid).calls (readied profile answers (state_of first)) (h answers c)));
+        refused-outcome refusal mid.calls (at_end profile) (readied profile answers before) (refused-for refusal mid.calls (readied profile answers before) (h answers c));
   }
-  not-started before first mid fault.Memory told last old new f called covered h =
-      record { made = (state_of mid).calls; called = called; own = covered; pending = tt; is = λ answers c. tt }
+  not-started fault.Memory told last old new called covered h =
+      record { made = mid.calls; called = called; own = covered; pending = tt; is = λ answers c. tt }
 
-  pub not-started-so : (before : Standing) (first mid : FormWorld) (e : EventFault) (r : session.EventFault) (told last : Told) (old new : List ℕ) → state_of first ≡ work.state_of before
-      → Called told last [] (state_of mid).calls → IsCovered mid
-      → ((answers : List Answer) → Covers answers (state_of mid).calls → Refuses (means e) (state_of mid).calls (readied profile answers (state_of first)))
-      → r ≡ session_fault e → Starts state kept calls (Err r) (work.state_of before) told last old new
-  not-started-so before first mid e r told last old new f called covered h same =
-      subst (λ (x : session.EventFault). Starts state kept calls (Err x) (work.state_of before) told last old new) (sym same)
-      (not-started before first mid e told last old new f called covered h)
+-- a form at work over this world, of which an event is pending
+module _ {W : Type 0} (state kept : W → State) (before : State) (r : AtWork W) (w : W) (same : r.world ≡ w) (on : r.is_pending ≡ true) where
+  shown-same : shown_in r.is_pending (state r.world) ≡ shown_in true (state w)
+  shown-same = ap (λ b. shown_in b (state r.world)) on ∙ ap (λ x. shown_in true (state x)) same
+
+  kept-same : kept_in r.is_pending (kept r.world) ≡ kept_in true (kept w)
+  kept-same = ap (λ b. kept_in b (kept r.world)) on ∙ ap (λ x. kept_in true (kept x)) same
+
+  calls-same : calls_in r.is_pending (state r.world) ≡ calls_in true (state w)
+  calls-same = ap (λ b. calls_in b (state r.world)) on ∙ ap (λ x. calls_in true (state x)) same
+
+  pub started-so : (told last : Told) (old new : List ℕ) → Called told last [] (state w).calls → IsCovered (state w)
+      → ((answers : List Answer) → Covers answers (state w).calls → readied profile answers before ≡ Ok (state w)) → new ≡ old ++ note_lines (state w).notes
+      → Starts (λ (q : AtWork W). shown_in q.is_pending (state q.world)) (λ q. kept_in q.is_pending (kept q.world)) (λ q. calls_in q.is_pending (state q.world)) (Ok r) before told last old new
+  started-so told last old new called covered e lines =
+      started-pending (λ (q : AtWork W). shown_in q.is_pending (state q.world)) (λ q. kept_in q.is_pending (kept q.world)) (λ q. calls_in q.is_pending (state q.world))
+      before (state w) r told last old new (kept w) shown-same kept-same calls-same called covered e lines

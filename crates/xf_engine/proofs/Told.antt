@@ -10,8 +10,8 @@ use Rattle.xf_def_machine.specs.Told.{Tells, told}
 use Rattle.xf_actions.specs.Performs.{Among, IsTold, RefusedAs, Refuses}
 use Rattle.xf_def_machine.specs.State.{State}
 use Rattle.xf_store.specs.declared.call.StoreCall.{StoreCall}
-use Rattle.xf_engine_world.specs.declared.fault.EventFault.TheVariants as fault
-use Rattle.xf_engine_world.specs.Fault.{means}
+use Rattle.xf_actions.specs.declared.fault.EventFault.TheVariants as fault
+use Rattle.xf_actions.specs.Fault.{means}
 use Rattle.xf_engine.specs.Handled.{IsStopped}
 
 among-contains : (w : LimitWord) (words : List LimitWord) → Among w words → Contains words w

@@ -1,4 +1,4 @@
--- An event that is handled and counted, and what stands between events.
+-- An event that is handled and counted.
 use Rattle.std.specs.Prelude.{ℕ, ◌≡◌, true, List, ◌++◌, Result, Ok, Err}
 use Rattle.xf_store.specs.declared.answers.Answer.{Answer}
 use Rattle.xf_store.specs.declared.call.StoreCall.{StoreCall}
@@ -9,14 +9,9 @@ use Rattle.xf_def_machine.specs.declared.refusal.Refusal.{Refusal}
 use Rattle.xf_def_machine.specs.Told.{Tells}
 use Rattle.xf_def_machine.specs.Flow.{◌>>=◌}
 use Rattle.xf_def_machine.specs.Replies.{ok_text}
-use Rattle.xf_def_machine.specs.Step.{fresh, one_more, posted}
-use Rattle.xf_def_form.specs.Formed.{profile}
-use Rattle.xf_engine_state.specs.Standing as work
-use Rattle.xf_engine_world.specs.declared.fault.EventFault.{EventFault}
-use Rattle.xf_engine_world.specs.declared.fault.EventFault.TheVariants as fault
-use Rattle.xf_engine_world.specs.declared.form_world.FormWorld.{FormWorld}
-use Rattle.xf_engine_world.specs.Outside.{standing_of}
-use Rattle.xf_engine_world.specs.State.{kept_of, state_of}
+use Rattle.xf_def_machine.specs.Step.{one_more, posted}
+use Rattle.xf_actions.specs.declared.fault.EventFault.{EventFault}
+use Rattle.xf_actions.specs.declared.fault.EventFault.TheVariants as fault
 
 -- it is counted, so many evaluations count, and its lines are appended to a text
 pub record IsHandled (count : ℕ) (after : State) (old new : List ℕ) (given : Result State Refused) : Type 0 where
@@ -37,9 +32,3 @@ Handles (Err fault.Memory) after old new given = Unit {0}
 -- the same for all answers that cover the calls of the store in the event
 abbrev pub HandlesOver : Result ℕ EventFault → State → List ℕ → List ℕ → (List Answer → Result State Refused) → Type 0
 HandlesOver result after old new given = (answers : List Answer) → Covers answers after.calls → Handles result after old new (given answers)
-
--- no event is handled: there are no notes, the next event has a whole budget, and what stands is kept
-pub record IsAtEnd (w : FormWorld) : Type 0 where
-  pub plain : state_of w ≡ work.state_of (standing_of w)
-  pub fresh : fresh profile (work.state_of (standing_of w)) ≡ work.state_of (standing_of w)
-  pub kept : (kept_of w).standing ≡ standing_of w

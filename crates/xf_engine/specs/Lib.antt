@@ -1,6 +1,4 @@
-pub mod Stepped
-pub mod Constructed
 pub mod Naming
-pub mod Tried
+pub mod Rows
 pub mod Handled
 pub mod Running

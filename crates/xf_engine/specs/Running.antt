@@ -1,40 +1,36 @@
 -- A form at work of which an event may be pending, and what a session has of it.
-use Rattle.std.specs.Prelude.{◌≡◌, Bool, true, false, List, [], Option, Some, None}
-use Rattle.xf_def_forest.specs.Changes.{in_instances}
+use Rattle.std.specs.Prelude.{◌≡◌, Bool, true, false, List, [], Option, Some, None, refl}
+use Rattle.std.specs.Coded.{Coded, code_by, coded×, coded_bool}
 use Rattle.xf_store.specs.declared.call.StoreCall.{StoreCall}
+use Rattle.xf_def_machine.specs.State.{State}
 use Rattle.xf_def_machine.specs.Step.{at_end}
 use Rattle.xf_def_form.specs.Formed.{profile}
-use Rattle.xf_session.specs.declared.fault.EventFault as session
-use Rattle.xf_session.specs.declared.fault.EventFault.TheVariants as pending
-use Rattle.xf_engine_state.specs.Standing.{Standing}
-use Rattle.xf_engine_state.specs.Standing as work
-use Rattle.xf_engine_world.specs.declared.fault.EventFault.{EventFault}
-use Rattle.xf_engine_world.specs.declared.fault.EventFault.TheVariants.{Refused, Memory}
-use Rattle.xf_engine_world.specs.declared.form_world.FormWorld.{FormWorld}
-use Rattle.xf_engine_world.specs.Outside.{standing_of}
-use Rattle.xf_engine_world.specs.State.{kept_of, state_of}
-use Rattle.xf_engine.specs.Handled.{IsAtEnd}
 
--- at the end of an event, as the machine's at_end: its detached trees are dropped, and the next one has a whole budget
-abbrev pub ended : Standing → Standing
-ended s = record s { forest = record s.forest { nodes = in_instances s.forest.nodes }; turns = profile.turns; made = 0; evaluated = 0 }
+-- a world, and whether an event of it is pending
+pub record AtWork (W : Type 0) : Type 0 where
+  pub world : W
+  pub is_pending : Bool
 
--- what stands once what is pending is kept, what stands again otherwise, and the calls of the store that are pending
-pub record Pending : Type 0 where
-  pub now : Standing
-  pub kept : Option Standing
-  pub calls : List StoreCall
+-- it is stored as the pair of its fields
+abbrev pub at_work_code : {W : Type 0} → Coded W → Coded (AtWork W)
+at_work_code {W} code = code_by (W × Bool) (coded× code coded_bool) (λ r. (r.world, r.is_pending)) (λ p. record { world = p.0; is_pending = p.1 }) (λ _. refl)
 
-abbrev pub pending_in : Bool → FormWorld → Pending
-pending_in true w = record { now = ended (standing_of w); kept = Some (ended (kept_of w).standing); calls = (state_of w).calls }
-pending_in false w = record { now = standing_of w; kept = None; calls = [] }
+-- no event is handled, no tree is detached, and what stands is kept
+pub record IsAtRest (now kept : State) : Type 0 where
+  pub whole : at_end profile now ≡ now
+  pub stands : kept ≡ now
 
--- no event is handled, and no tree is detached
-pub record IsAtRest (w : FormWorld) : Type 0 where
-  pub ended : IsAtEnd w
-  pub whole : at_end profile (work.state_of (standing_of w)) ≡ work.state_of (standing_of w)
+-- by whether an event is pending, what stands once that is kept
+abbrev pub shown_in : Bool → State → State
+shown_in true now = at_end profile now
+shown_in false now = now
 
--- the fault of an event, as a session has it
-abbrev pub session_fault : EventFault → session.EventFault
-session_fault (Refused refusal) = pending.Refused refusal
-session_fault Memory = pending.Memory
+-- what stands again where it is taken back
+abbrev pub kept_in : Bool → State → Option State
+kept_in true kept = Some (at_end profile kept)
+kept_in false kept = None
+
+-- its calls of the store
+abbrev pub calls_in : Bool → State → List StoreCall
+calls_in true now = now.calls
+calls_in false now = []

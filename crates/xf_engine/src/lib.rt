@@ -1,15 +1,15 @@
-//! A form at work: its data, what its binds say of them, its controls, its handlers, and the events that it takes from outside.
+//! A form at work, over whoever keeps the state of the form machine: how it starts, and the events that it takes from outside.
 #![tactic(auto, unfolding(xf_actions::specs::Performs::Refuses))]
 
 mod answers;
-mod construction;
-mod engine;
+mod constructed;
 mod events;
+mod handling;
 mod naming;
 mod outermost;
 mod rows;
 mod running;
 mod start;
 
-pub use engine::{Constructed, Engine, construct};
+pub use constructed::Constructed;
 pub use running::Running;

@@ -4,15 +4,14 @@ ghost use Rattle.std.specs.Prelude.{◌≡◌, IfOk};
 ghost use Rattle.xf_def_machine.specs.Step.{model_named};
 ghost use Rattle.xf_def_machine.specs.Targets.{element_named, or_no_target};
 ghost use Rattle.xf_actions.specs.Performs.{Reads};
-ghost use Rattle.xf_engine_world.specs.Fault.{means};
-ghost use Rattle.xf_engine_world.specs.State.{state_of};
+ghost use Rattle.xf_actions.specs.Fault.{means};
 ghost use Rattle.xf_engine.specs.Naming.{is_named, is_wanted, named_from, wanted_in};
 
 use std::alloc::AllocError;
-use xf_actions::World;
+use xf_actions::{EventFault, World};
 use xf_def_machine::Refusal;
 use xf_def_syntax::{Control, Element, Kind};
-use xf_engine_world::{EventFault, FormWorld};
+use xf_engine_machine::Machine;
 
 /// What an event asks of the element that it names.
 #[derive(Clone, Copy, Debug, PartialEq, Eq)]
@@ -30,8 +29,8 @@ pub enum Wanted {
 }
 
 /// The first element with this id that is wanted.
-pub(crate) fn target(world: &FormWorld, wanted: Wanted, id: &str) -> Result<u32, EventFault>
-    ensures { Reads means (λ n. n) (state_of world.now) result (or_no_target (state_of world.now) (element_named (state_of world.now) (wanted_in wanted (state_of world.now)) id.now)) }
+pub(crate) fn target<W: Machine>(world: &W, wanted: Wanted, id: &str) -> Result<u32, EventFault>
+    ensures { Reads means (λ n. n) (W.state world.now) result (or_no_target (W.state world.now) (element_named (W.state world.now) (wanted_in wanted (W.state world.now)) id.now)) }
 {
     match first_named(world.form().elements.as_slice(), wanted, id)? {
         Some(element) => Ok(element),
@@ -40,8 +39,8 @@ pub(crate) fn target(world: &FormWorld, wanted: Wanted, id: &str) -> Result<u32,
 }
 
 /// The model that has this id: the first model where the id is empty.
-pub(crate) fn model(world: &FormWorld, id: &str) -> Result<u32, EventFault>
-    ensures { Reads means (λ n. n) (state_of world.now) result (or_no_target (state_of world.now) (model_named (state_of world.now) id.now)) }
+pub(crate) fn model<W: Machine>(world: &W, id: &str) -> Result<u32, EventFault>
+    ensures { Reads means (λ n. n) (W.state world.now) result (or_no_target (W.state world.now) (model_named (W.state world.now) id.now)) }
 {
     if id.is_empty() {
         return Ok(world.model_element(0));

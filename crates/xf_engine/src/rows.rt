@@ -1,96 +1,37 @@
-//! The copies of controls that events from outside name by rows.
+//! The rows that events from outside name by numbers.
 
 ghost use Rattle.std.specs.Prelude.{◌≡◌, zip};
-ghost use Rattle.xf_controls.specs.Seen.{seen_copy};
+ghost use Rattle.xf_def_machine.specs.Choose.{set_index as index_set};
 ghost use Rattle.xf_def_machine.specs.Flow.{in_turn};
-ghost use Rattle.xf_def_machine.specs.Step.{is_row};
-ghost use Rattle.xf_def_machine.specs.Surround.{interface};
-ghost use Rattle.xf_def_machine.specs.Targets.{copy_named, take_rows as rows_taken, takes_text};
-ghost use Rattle.xf_def_ui.specs.Elements.{element_at};
-ghost use Rattle.xf_def_ui.specs.Interface.{sort_of};
+ghost use Rattle.xf_def_machine.specs.Targets.{take_rows as rows_taken};
 ghost use Rattle.xf_def_form.specs.Formed.{profile};
-ghost use Rattle.xf_actions.specs.Performs.{Reads, Runs};
-ghost use Rattle.xf_engine_world.specs.Fault.{means};
-ghost use Rattle.xf_engine_world.specs.State.{kept_of, state_of};
-ghost use Rattle.xf_engine.specs.Tried.{row_taken};
+ghost use Rattle.xf_actions.specs.Performs.{Runs};
+ghost use Rattle.xf_actions.specs.Fault.{means};
+ghost use Rattle.xf_engine.specs.Rows.{row_taken};
 
-use xf_actions::World;
-use xf_controls::ControlCopy;
-use xf_def_forest::NodeList;
-use xf_def_machine::Refusal;
-use xf_def_syntax::{Control, Kind};
-use xf_engine_world::{EventFault, FormWorld};
-use xf_form_elements::{element_in, model_at, repeats_around};
-use xf_items::may_be_set;
-use xf_repeat::named_rows;
-
-/// The copy of an element in the rows that numbers name: the rows stand, and are neither too few nor too many.
-pub(crate) fn copy_named<'a>(
-    world: &'a FormWorld,
-    element: u32,
-    numbers: &[u64],
-) -> Result<&'a ControlCopy, EventFault>
-    ensures { Reads means (λ c. seen_copy c.now) (state_of world.now) result (copy_named profile (state_of world.now) element numbers.now) }
-{
-    let Some(rows) = named_rows(&world.over(), element, numbers)? else {
-        return Err(EventFault::Refused(Refusal::NoSuchTarget));
-    };
-    match world.control(element, rows.as_slice()) {
-        Some(copy) => Ok(copy),
-        None => Err(EventFault::Refused(Refusal::NoSuchTarget)),
-    }
-}
-
-/// Whether the items of a select allow a text, or other texts are allowed.
-pub(crate) fn takes_text(world: &FormWorld, element: u32, copy: &ControlCopy, text: &str) -> bool
-    ensures { result ≡ takes_text (element_at (interface (state_of world.now)) element).sort (seen_copy copy.now) text.now }
-{
-    match element_in(world.form(), element) {
-        Some(here) => is_allowed(&here.kind, copy, text),
-        None => true,
-    }
-}
-
-fn is_allowed(kind: &Kind, copy: &ControlCopy, text: &str) -> bool
-    ensures { result ≡ takes_text (sort_of kind.now) (seen_copy copy.now) text.now }
-{
-    match kind {
-        Kind::Control(_, Control::Select(is_free)) => {
-            may_be_set(true, *is_free, copy.items.as_slice(), text)
-        }
-        Kind::Control(_, Control::SelectOne(is_free)) => {
-            may_be_set(false, *is_free, copy.items.as_slice(), text)
-        }
-        _ => true,
-    }
-}
-
-/// Whether a number is one of the rows.
-pub(crate) fn is_row(rows: &NodeList, number: u64) -> bool
-    ensures { result ≡ is_row rows.now number }
-{
-    number >= 1 && number <= rows.len() as u64
-}
+use xf_actions::{EventFault, World};
+use xf_engine_machine::Machine;
+use xf_form_elements::{model_at, repeats_around};
 
 /// The rows that numbers name become the indexed ones: each as by setindex, the outermost first.
-pub(crate) fn take_rows(
-    world: &mut FormWorld,
+pub(crate) fn take_rows<W: Machine>(
+    world: &mut W,
     element: u32,
     numbers: &[u64],
 ) -> Result<(), EventFault>
-    ensures done { Runs means (state_of world.new) result (rows_taken profile element numbers.now (state_of world.old)) }
-    ensures kept { kept_of world.new ≡ kept_of world.old }
-    ensures calls { (state_of world.new).calls ≡ (state_of world.old).calls }
+    ensures done { Runs means (W.state world.new) result (rows_taken profile element numbers.now (W.state world.old)) }
+    ensures kept { W.kept world.new ≡ W.kept world.old }
+    ensures calls { (W.state world.new).calls ≡ (W.state world.old).calls }
 {
     let repeats = repeats_around(world.alloc(), world.form(), element)?;
     take_each(world, repeats.as_slice(), numbers)
 }
 
 /// Each of these repeats takes its number.
-fn take_each(world: &mut FormWorld, repeats: &[u32], numbers: &[u64]) -> Result<(), EventFault>
-    ensures done { Runs means (state_of world.new) result (in_turn (row_taken profile) (zip repeats.now numbers.now) (state_of world.old)) }
-    ensures kept { kept_of world.new ≡ kept_of world.old }
-    ensures calls { (state_of world.new).calls ≡ (state_of world.old).calls }
+fn take_each<W: Machine>(world: &mut W, repeats: &[u32], numbers: &[u64]) -> Result<(), EventFault>
+    ensures done { Runs means (W.state world.new) result (in_turn (row_taken profile) (zip repeats.now numbers.now) (W.state world.old)) }
+    ensures kept { W.kept world.new ≡ W.kept world.old }
+    ensures calls { (W.state world.new).calls ≡ (W.state world.old).calls }
 {
     if repeats.is_empty() {
         return Ok(());
@@ -99,6 +40,20 @@ fn take_each(world: &mut FormWorld, repeats: &[u32], numbers: &[u64]) -> Result<
         return Ok(());
     }
     let model = model_at(world.form(), repeats[0]);
-    world.set_index(model, repeats[0], numbers[0])?;
+    set_index(world, model, repeats[0], numbers[0])?;
     take_each(world, &repeats[1..], &numbers[1..])
+}
+
+/// The index of a repeat is set, which flags the refresh of the model.
+pub(crate) fn set_index<W: Machine>(
+    world: &mut W,
+    model: u32,
+    repeat: u32,
+    index: u64,
+) -> Result<(), EventFault>
+    ensures done { Runs means (W.state world.new) result (index_set profile model repeat index (W.state world.old)) }
+    ensures kept { W.kept world.new ≡ W.kept world.old }
+    ensures calls { (W.state world.new).calls ≡ (W.state world.old).calls }
+{
+    world.set_index(model, repeat, index)
 }

@@ -1,79 +1,68 @@
 //! A form at work, an event of which may be pending.
 
-ghost use Rattle.std.specs.Prelude.{◌≡◌, ◌++◌, None, string_bytes, OnOk};
-ghost use Rattle.xf_def_machine.specs.ControlText.{state_text};
-ghost use Rattle.xf_def_form.specs.Formed.{profile};
-ghost use Rattle.xf_engine_state.specs.Standing.{state_of};
-ghost use Rattle.xf_engine.specs.Running.{session_fault};
+ghost use Rattle.std.specs.Prelude.{◌≡◌, false, true};
 
 use crate::answers::answers_to;
-use crate::engine::{Constructed, handle};
-use crate::start::ready;
+use crate::handling::handle;
 use std::alloc::AllocError;
 use std::marker::Model;
-use xf_actions::World;
-use xf_engine_world::{EventFault, FormWorld};
+use xf_actions::{EventFault, World};
+use xf_engine_machine::Machine;
 use xf_line::Event;
-use xf_session as session;
-use xf_session::{Processor, Starting};
+use xf_session::Processor;
 use xf_store::{Answers, Store};
 
-/// A form at work. An event that it takes is pending until it is kept or taken back. Contracts see what stands once that is kept, what
-/// stands again where it is taken back, and the calls of the store that are pending.
+/// A form at work. An event that it takes is pending until it is kept or taken back.
 #[derive(Drop)]
-pub struct Running {
-    world: FormWorld,
+pub struct Running<W: Machine> {
+    world: W,
     is_pending: bool,
 }
 
-impl Model for Running {
-    ghost use Rattle.std.specs.Coded.{codes};
-    ghost use Rattle.xf_def_syntax.specs.contracts.expr.Expr as expr;
-    ghost use Rattle.xf_engine.specs.Running.{IsAtRest, Pending, pending_in};
+impl<W: Machine> Model for Running<W> {
+    ghost use Rattle.xf_engine.specs.Running.{AtWork, at_work_code};
+
+    ghost Value = { AtWork W };
+
+    ghost coded = { at_work_code W.code };
+
     ghost use Rattle.std.specs.Prelude.{◌≡◌, false};
+    ghost use Rattle.xf_engine.specs.Running.{IsAtRest};
 
-    ghost Value = { Pending };
+    ghost view = { λ r. record { world = r.world; is_pending = r.is_pending } };
 
-    ghost coded = { Prim.hlevel (codes, expr.the_row.coded) };
-
-    ghost view = { λ r. pending_in r.is_pending r.world };
-
-    ghost invariant = { λ r. r.is_pending ≡ false → IsAtRest r.world };
+    // While no event is pending nothing is left of one, and what stands is kept.
+    ghost invariant = { λ r. r.is_pending ≡ false → IsAtRest (W.state r.world) (W.kept r.world) };
 }
 
-impl Running {
-    /// Appends the text of the state.
-    pub fn push_text(&self, text: &mut String) -> Result<(), AllocError>
-        requires { self.now.kept ≡ None }
-        ensures { OnOk result (string_bytes text.new ≡ string_bytes text.old ++ state_text profile (state_of self.now.now)) }
+impl<W: Machine> Running<W> {
+    /// That of a world in which an event was handled, which is pending.
+    pub(crate) fn pending(world: W) -> Running<W>
+        ensures world { result.world ≡ world }
+        ensures pending { result.is_pending ≡ true }
     {
-        self.world.push_text(text)
-    }
-
-    /// How many events were accepted.
-    pub fn accepted(&self) -> u64
-        ensures { result ≡ self.now.now.accepted }
-    {
-        self.world.accepted()
+        Running {
+            world,
+            is_pending: true,
+        }
     }
 }
 
-impl Processor for Running {
-    ghost use Rattle.std.specs.Prelude.{option_map};
-    ghost use Rattle.xf_engine_state.specs.Standing.{state_of};
+impl<W: Machine> Processor for Running<W> {
+    ghost use Rattle.xf_engine.specs.Running.{calls_in, kept_in, shown_in};
 
-    ghost state = { λ r. state_of r.now };
+    ghost state = { λ r. shown_in r.is_pending (W.state r.world) };
 
-    ghost kept = { λ r. option_map state_of r.kept };
+    ghost kept = { λ r. kept_in r.is_pending (W.kept r.world) };
 
-    ghost calls = { λ r. r.calls };
+    ghost calls = { λ r. calls_in r.is_pending (W.state r.world) };
 
     fn post<S: Store>(
         &mut self,
         event: &Event,
         store: &mut S,
         text: &mut String,
-    ) -> Result<(), session::EventFault> {
+    ) -> Result<(), EventFault> {
         let handled = handle(&mut self.world, event, store, text);
         self.world.calls_are_covered();
         match handled {
@@ -83,14 +72,17 @@ impl Processor for Running {
             }
             Err(fault) => {
                 self.world.roll_back();
-                Err(session_fault(fault))
+                Err(fault)
             }
         }
     }
 
+    fn push_state(&self, text: &mut String) -> Result<(), AllocError> {
+        self.world.push_text(text)
+    }
+
     fn answers(&self) -> Result<Answers, AllocError> {
-        self.world.calls_are_few();
-        answers_to(self.world.alloc(), self.world.calls())
+        answers_to(self.world.alloc(), self.world.store_calls())
     }
 
     fn commit(&mut self) {
@@ -104,41 +96,5 @@ impl Processor for Running {
         self.world.roll_back();
         self.world.commit();
         self.is_pending = false;
-    }
-}
-
-impl Starting<Running> for Constructed {
-    ghost use Rattle.xf_engine_state.specs.Standing.{state_of};
-
-    ghost first = { state_of };
-
-    fn start<S: Store>(
-        self,
-        store: &mut S,
-        text: &mut String,
-    ) -> Result<Running, session::EventFault> {
-        let mut world = self.into_world();
-        let ready = ready(&mut world, store, text);
-        world.calls_are_covered();
-        match ready {
-            Ok(()) => Ok(Running {
-                world,
-                is_pending: true,
-            }),
-            Err(fault) => {
-                world.discard();
-                Err(session_fault(fault))
-            }
-        }
-    }
-}
-
-/// The fault of an event, as a session has it.
-fn session_fault(fault: EventFault) -> session::EventFault
-    ensures { result ≡ session_fault fault }
-{
-    match fault {
-        EventFault::Refused(refusal) => session::EventFault::Refused(refusal),
-        EventFault::Memory => session::EventFault::Memory,
     }
 }

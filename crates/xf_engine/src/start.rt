@@ -6,24 +6,23 @@ ghost use Rattle.xf_def_machine.specs.Start.{readied, tell_model as tells_model,
 ghost use Rattle.xf_def_form.specs.Formed.{profile};
 ghost use Rattle.xf_store.specs.Called.{Called};
 ghost use Rattle.xf_actions.specs.Performs.{RunsOver};
-ghost use Rattle.xf_engine_world.specs.Fault.{means};
-ghost use Rattle.xf_engine_world.specs.State.{state_of};
+ghost use Rattle.xf_actions.specs.Fault.{means};
 
 use crate::outermost::tell;
-use xf_actions::World;
-use xf_engine_world::{EventFault, FormWorld};
+use xf_actions::{EventFault, World};
+use xf_engine_machine::Machine;
 use xf_report::push_notes;
 use xf_store::Store;
 
 /// Tells the models that they are constructed and ready: an event of its own, with a whole budget. Appends the lines of its notes.
-pub(crate) fn ready<S: Store>(
-    world: &mut FormWorld,
+pub(crate) fn ready<W: Machine, S: Store>(
+    world: &mut W,
     store: &mut S,
     text: &mut String,
 ) -> Result<(), EventFault>
-    ensures done { RunsOver means (state_of world.new) result (λ answers. readied profile answers (state_of world.old)) }
-    ensures store { Called (S.calls store.old, S.to_come store.old) (S.calls store.new, S.to_come store.new) [] (state_of world.new).calls }
-    ensures text { OnOk result (string_bytes text.new ≡ string_bytes text.old ++ note_lines (state_of world.new).notes) }
+    ensures done { RunsOver means (W.state world.new) result (λ answers. readied profile answers (W.state world.old)) }
+    ensures store { Called (S.calls store.old, S.to_come store.old) (S.calls store.new, S.to_come store.new) [] (W.state world.new).calls }
+    ensures text { OnOk result (string_bytes text.new ≡ string_bytes text.old ++ note_lines (W.state world.new).notes) }
 {
     world.begin_event();
     tell_models(world, "xforms-model-construct", store)?;
@@ -34,9 +33,13 @@ pub(crate) fn ready<S: Store>(
 }
 
 /// Tells an event of this name to each model.
-fn tell_models<S: Store>(world: &mut FormWorld, name: &str, store: &mut S) -> Result<(), EventFault>
-    ensures done { RunsOver means (state_of world.new) result (λ answers. tells_models profile answers name.now (state_of world.old)) }
-    ensures store { Called (S.calls store.old, S.to_come store.old) (S.calls store.new, S.to_come store.new) (state_of world.old).calls (state_of world.new).calls }
+fn tell_models<W: Machine, S: Store>(
+    world: &mut W,
+    name: &str,
+    store: &mut S,
+) -> Result<(), EventFault>
+    ensures done { RunsOver means (W.state world.new) result (λ answers. tells_models profile answers name.now (W.state world.old)) }
+    ensures store { Called (S.calls store.old, S.to_come store.old) (S.calls store.new, S.to_come store.new) (W.state world.old).calls (W.state world.new).calls }
 {
     let count = world.model_count();
     for model in 0..count {
@@ -45,14 +48,14 @@ fn tell_models<S: Store>(world: &mut FormWorld, name: &str, store: &mut S) -> Re
     Ok(())
 }
 
-fn tell_model<S: Store>(
-    world: &mut FormWorld,
+fn tell_model<W: Machine, S: Store>(
+    world: &mut W,
     name: &str,
     model: u32,
     store: &mut S,
 ) -> Result<(), EventFault>
-    ensures done { RunsOver means (state_of world.new) result (λ answers. tells_model profile answers name.now model (state_of world.old)) }
-    ensures store { Called (S.calls store.old, S.to_come store.old) (S.calls store.new, S.to_come store.new) (state_of world.old).calls (state_of world.new).calls }
+    ensures done { RunsOver means (W.state world.new) result (λ answers. tells_model profile answers name.now model (W.state world.old)) }
+    ensures store { Called (S.calls store.old, S.to_come store.old) (S.calls store.new, S.to_come store.new) (W.state world.old).calls (W.state world.new).calls }
 {
     let event = world.event_at(name, world.model_element(model))?;
     tell(world, &event, store)

@@ -26,9 +26,10 @@ use Rattle.xf_engine_state.specs.Calls.{AreRefreshed, Refreshes}
 use Rattle.xf_engine_state.specs.Does as work
 use Rattle.xf_engine_state.specs.Does.{Does, IsRefused}
 use Rattle.xf_engine_state.specs.Standing.{Standing, state_of}
-use Rattle.xf_engine_world.specs.declared.fault.EventFault.{EventFault}
+use Rattle.xf_actions.specs.declared.fault.EventFault.{EventFault}
 use Rattle.xf_engine_world.specs.declared.form_world.FormWorld.{FormWorld}
-use Rattle.xf_engine_world.specs.Fault.{event_of, fault_of_work, means}
+use Rattle.xf_actions.specs.Fault.{means}
+use Rattle.xf_engine_world.specs.Fault.{event_of, fault_of_work}
 
 -- ---- refusals
 

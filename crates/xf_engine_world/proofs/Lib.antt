@@ -8,3 +8,8 @@ pub mod OutsideLaws
 pub mod SubmitLaws
 pub mod OutcomeLaws
 pub mod SendLaws
+pub mod Flow
+pub mod Keeps
+pub mod FormFaults
+pub mod ConstructionLaws
+pub mod TryLaws

@@ -22,7 +22,7 @@ use Rattle.xf_actions.specs.Performs.{Refuses, RefusedAs}
 use Rattle.xf_eval_context.specs.declared.over.Over.{Over}
 use Rattle.xf_eval_context.specs.Over.{around_over, text_or, truth_worth, whole_worth}
 use Rattle.xf_def_form.specs.Formed.{profile}
-use Rattle.xf_engine_world.specs.Fault.{means, fault_of}
+use Rattle.xf_actions.specs.Fault.{means, fault_of}
 use Rattle.xf_engine_world.specs.Seen.{IsOver}
 
 -- a string was too long, or memory was wanting

@@ -24,9 +24,9 @@ use Rattle.xf_submit.specs.Requesting.{Requested, asks, fails}
 use Rattle.xf_submit.specs.Responding.{responded_by, seen_outcome}
 use Rattle.xf_submit.specs.Steps.{called_in, last_answer, request_in, requested, responded}
 use Rattle.xf_submit.proofs.MachineLaws.{answered-shown, attempted-steps, exchanged-steps}
-use Rattle.xf_engine_world.specs.declared.fault.EventFault.{EventFault}
+use Rattle.xf_actions.specs.declared.fault.EventFault.{EventFault}
 use Rattle.xf_engine_world.specs.declared.submitting.Sent.{Sent}
-use Rattle.xf_engine_world.specs.Fault.{means}
+use Rattle.xf_actions.specs.Fault.{means}
 use Rattle.xf_engine_world.specs.Submitting.{sent_of}
 use Rattle.xf_engine_world.proofs.SubmitLaws.{failed-is}
 

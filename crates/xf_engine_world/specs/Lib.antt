@@ -1,5 +1,5 @@
 pub mod Fault
 pub mod State
 pub mod Seen
-pub mod Outside
+pub mod Constructed
 pub mod Submitting

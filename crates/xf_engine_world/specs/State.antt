@@ -13,3 +13,7 @@ state_of w = record (standing.state_of w.work.now) {
 -- what stood at the end of the last event
 abbrev pub kept_of : FormWorld → Stage
 kept_of w = w.work.kept
+
+-- the state of the machine then, between events
+abbrev pub kept_state : FormWorld → State
+kept_state w = standing.state_of w.work.kept.standing

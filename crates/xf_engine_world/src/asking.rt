@@ -7,15 +7,14 @@ ghost use Rattle.xf_def_machine.specs.Delete as del;
 ghost use Rattle.xf_def_machine.specs.Insert as ins;
 ghost use Rattle.xf_actions.specs.Performs.{Reads};
 ghost use Rattle.xf_actions.specs.Seen.{acting_of, focus_of};
-ghost use Rattle.xf_engine_world.specs.Fault.{means};
+ghost use Rattle.xf_actions.specs.Fault.{means};
 ghost use Rattle.xf_def_form.specs.Formed.{profile};
 ghost use Rattle.xf_engine_world.specs.State.{state_of};
 
-use crate::fault::EventFault;
 use crate::form_world::FormWorld;
 use crate::reading::whole;
 use crate::surrounding::over_event;
-use xf_actions::{Acting, Fired, Focus};
+use xf_actions::{Acting, EventFault, Fired, Focus};
 use xf_def_forest::{NodeId, NodeList};
 use xf_def_syntax::Expr;
 use xf_eval::{nodes_in, single};

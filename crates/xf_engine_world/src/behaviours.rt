@@ -18,13 +18,13 @@ ghost use Rattle.xf_actions.specs.Told.{cleared_by, is_set, refreshed};
 ghost use Rattle.xf_def_form.specs.Formed.{profile};
 ghost use Rattle.xf_engine_state.specs.Calls.{Refreshes};
 ghost use Rattle.xf_engine_state.specs.Flags.{flag_of};
-ghost use Rattle.xf_engine_world.specs.Fault.{means};
+ghost use Rattle.xf_actions.specs.Fault.{means};
 ghost use Rattle.xf_engine_world.specs.State.{kept_of, state_of};
 
-use crate::fault::{EventFault, as_event};
+use crate::fault::{as_event, event_fault};
 use crate::form_world::FormWorld;
 use std::alloc::{AllocError, Global};
-use xf_actions::{Fired, FiredList, Flag};
+use xf_actions::{EventFault, Fired, FiredList, Flag};
 use xf_controls::{Notification, NotificationList};
 use xf_def_forest::NodeId;
 use xf_def_machine::Refusal;
@@ -167,7 +167,7 @@ pub(crate) fn refresh(world: &mut FormWorld, model: Option<u32>) -> Result<Fired
             Ok(events) => Ok(events),
             Err(_) => Err(EventFault::Memory),
         },
-        Err(fault) => Err(EventFault::from(fault)),
+        Err(fault) => Err(event_fault(fault)),
     }
 }
 

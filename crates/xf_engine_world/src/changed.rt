@@ -6,13 +6,12 @@ ghost use Rattle.xf_def_machine.specs.Insert.{insert_told};
 ghost use Rattle.xf_actions.specs.Performs.{Reads};
 ghost use Rattle.xf_actions.specs.Seen.{fired_of, place_of};
 ghost use Rattle.xf_actions.specs.TreeChanges.{instance_event};
-ghost use Rattle.xf_engine_world.specs.Fault.{means};
+ghost use Rattle.xf_actions.specs.Fault.{means};
 ghost use Rattle.xf_engine_world.specs.State.{state_of};
 
-use crate::fault::EventFault;
 use crate::form_world::FormWorld;
 use crate::telling::rows_around;
-use xf_actions::{Fired, Inserting};
+use xf_actions::{EventFault, Fired, Inserting};
 use xf_def_forest::NodeList;
 use xf_events::{ToInstance, instance_element};
 

@@ -4,13 +4,12 @@ ghost use Rattle.std.specs.Prelude.{◌≡◌};
 ghost use Rattle.xf_def_machine.specs.Update.{due_rebuild as rebuilds, due_recalculation as recalculates, due_revalidation as revalidates};
 ghost use Rattle.xf_actions.specs.Performs.{Runs};
 ghost use Rattle.xf_def_form.specs.Formed.{profile};
-ghost use Rattle.xf_engine_world.specs.Fault.{means};
+ghost use Rattle.xf_actions.specs.Fault.{means};
 ghost use Rattle.xf_engine_world.specs.State.{kept_of, state_of};
 
 use crate::behaviours::{is_flagged, rebuild, recalculate, revalidate};
-use crate::fault::EventFault;
 use crate::form_world::FormWorld;
-use xf_actions::Flag;
+use xf_actions::{EventFault, Flag};
 
 /// What is due of a model is done, as far as the revalidation.
 pub(crate) fn revalidate_due(world: &mut FormWorld, model: u32) -> Result<(), EventFault>

@@ -9,11 +9,11 @@ ghost use Rattle.xf_def_ui.specs.Cases.{cases_of, place_of_case as case_place};
 ghost use Rattle.xf_def_ui.specs.Elements.{element_at};
 ghost use Rattle.xf_actions.specs.Performs.{Reads};
 ghost use Rattle.xf_actions.specs.Seen.{IsProgram};
-ghost use Rattle.xf_engine_world.specs.Fault.{means};
+ghost use Rattle.xf_actions.specs.Fault.{means};
 ghost use Rattle.xf_engine_world.specs.State.{state_of};
 
-use crate::fault::EventFault;
 use crate::form_world::FormWorld;
+use xf_actions::EventFault;
 use xf_def_syntax::{ElementList, Form};
 use xf_events as events;
 use xf_form_elements::parent_of;

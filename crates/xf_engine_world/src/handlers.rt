@@ -7,12 +7,11 @@ ghost use Rattle.xf_def_ui.specs.Elements.{actions_in, element_at};
 ghost use Rattle.xf_def_ui.specs.Labels.{words_of};
 ghost use Rattle.xf_actions.specs.Performs.{Reads};
 ghost use Rattle.xf_actions.specs.Seen.{fired_of};
-ghost use Rattle.xf_engine_world.specs.Fault.{means};
+ghost use Rattle.xf_actions.specs.Fault.{means};
 ghost use Rattle.xf_engine_world.specs.State.{state_of};
 
-use crate::fault::EventFault;
 use crate::form_world::FormWorld;
-use xf_actions::Fired;
+use xf_actions::{EventFault, Fired};
 use xf_def_syntax::ElementList;
 use xf_def_ui::CallList;
 use xf_events::{actions_at, called, words_at};

@@ -3,12 +3,12 @@
 ghost use Rattle.std.specs.Prelude.{◌≡◌};
 ghost use Rattle.xf_def_machine.specs.Primitives.{add_note as noted};
 ghost use Rattle.xf_actions.specs.Performs.{Runs};
-ghost use Rattle.xf_engine_world.specs.Fault.{means};
+ghost use Rattle.xf_actions.specs.Fault.{means};
 ghost use Rattle.xf_def_form.specs.Formed.{profile};
 ghost use Rattle.xf_engine_world.specs.State.{kept_of, state_of};
 
-use crate::fault::EventFault;
 use crate::form_world::FormWorld;
+use xf_actions::EventFault;
 use xf_def_machine::{LimitWord, Note, Refusal};
 use xf_events::NoteFault;
 

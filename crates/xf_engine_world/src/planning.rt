@@ -9,12 +9,11 @@ ghost use Rattle.xf_def_model.specs.Places as places;
 ghost use Rattle.xf_def_model.specs.Taken as taken;
 ghost use Rattle.xf_actions.specs.Performs.{Reads};
 ghost use Rattle.xf_actions.specs.Seen.{focus_of, place_of};
-ghost use Rattle.xf_engine_world.specs.Fault.{means};
+ghost use Rattle.xf_actions.specs.Fault.{means};
 ghost use Rattle.xf_engine_world.specs.State.{state_of};
 
-use crate::fault::EventFault;
 use crate::form_world::FormWorld;
-use xf_actions::{Focus, PlaceList};
+use xf_actions::{EventFault, Focus, PlaceList};
 use xf_def_forest::NodeList;
 use xf_def_syntax::InsertWork;
 use xf_insert::{Asked, Planning};

@@ -9,14 +9,14 @@ ghost use Rattle.xf_def_form.specs.Formed.{profile};
 ghost use Rattle.xf_submit.specs.Requesting.{seen_request};
 ghost use Rattle.xf_submit.specs.Responding.{responded_by, seen_outcome};
 ghost use Rattle.xf_submit.specs.Steps.{last_answer, request_in};
-ghost use Rattle.xf_engine_world.specs.Fault.{means};
+ghost use Rattle.xf_actions.specs.Fault.{means};
 ghost use Rattle.xf_engine_world.specs.State.{state_of};
 ghost use Rattle.xf_engine_world.specs.Submitting.{HasPlantable};
 
-use crate::fault::EventFault;
 use crate::form_world::FormWorld;
 use crate::holding::instance_holding;
 use crate::surrounding::over_quiet;
+use xf_actions::EventFault;
 use xf_def_forest::NodeId;
 use xf_def_syntax::{Form, Submission};
 use xf_submit::{Outcome, Request, requested, response, takes_text, takes_tree, target};

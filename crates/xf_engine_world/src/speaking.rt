@@ -6,13 +6,12 @@ ghost use Rattle.xf_actions.specs.Performs.{Reads};
 ghost use Rattle.xf_actions.specs.Seen.{acting_of};
 ghost use Rattle.xf_actions.specs.Texts.{message_text};
 ghost use Rattle.xf_def_form.specs.Formed.{profile};
-ghost use Rattle.xf_engine_world.specs.Fault.{means};
+ghost use Rattle.xf_actions.specs.Fault.{means};
 ghost use Rattle.xf_engine_world.specs.State.{state_of};
 
-use crate::fault::EventFault;
 use crate::form_world::FormWorld;
 use crate::surrounding::{over_event, over_quiet};
-use xf_actions::{Acting, Fired};
+use xf_actions::{Acting, EventFault, Fired};
 use xf_eval_context::{binding_at, inside_under, text_in, text_or};
 use xf_name::Word;
 

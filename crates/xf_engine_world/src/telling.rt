@@ -6,13 +6,12 @@ ghost use Rattle.xf_def_machine.specs.Surround.{interface};
 ghost use Rattle.xf_def_ui.specs.Named.{rows_cut};
 ghost use Rattle.xf_actions.specs.Performs.{Reads};
 ghost use Rattle.xf_actions.specs.Seen.{fired_of, told_of};
-ghost use Rattle.xf_engine_world.specs.Fault.{means};
+ghost use Rattle.xf_actions.specs.Fault.{means};
 ghost use Rattle.xf_engine_world.specs.State.{state_of};
 
-use crate::fault::EventFault;
 use crate::form_world::FormWorld;
 use std::alloc::AllocError;
-use xf_actions::{Fired, PropertyList};
+use xf_actions::{EventFault, Fired, PropertyList};
 use xf_def_forest::NodeList;
 use xf_events as events;
 use xf_repeat::rows_cut;

@@ -6,11 +6,12 @@ ghost use Rattle.xf_def_machine.specs.Construct.{construct, put_back as instance
 ghost use Rattle.xf_def_machine.specs.Primitives.{attach as attached, copy as copied, detach as detached};
 ghost use Rattle.xf_actions.specs.Performs.{Makes, Runs};
 ghost use Rattle.xf_def_form.specs.Formed.{profile};
-ghost use Rattle.xf_engine_world.specs.Fault.{means};
+ghost use Rattle.xf_actions.specs.Fault.{means};
 ghost use Rattle.xf_engine_world.specs.State.{kept_of, state_of};
 
-use crate::fault::{EventFault, as_event};
+use crate::fault::as_event;
 use crate::form_world::FormWorld;
+use xf_actions::EventFault;
 use xf_def_forest::NodeId;
 
 /// A copy of a tree comes as a detached one.

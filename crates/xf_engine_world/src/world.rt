@@ -1,6 +1,5 @@
 //! The world of a form as the form machine that dispatch, actions and default actions are written over.
 
-use crate::fault::EventFault;
 use crate::form_world::FormWorld;
 use crate::{
     asking, behaviours, changed, choosing, elements, handlers, holding, noting, planning, reading,
@@ -8,7 +7,8 @@ use crate::{
 };
 use std::alloc::Global;
 use xf_actions::{
-    Acting, Concluded, Ending, Fired, FiredList, Flag, Focus, Inserting, PlaceList, World,
+    Acting, Concluded, Ending, EventFault, Fired, FiredList, Flag, Focus, Inserting, PlaceList,
+    World,
 };
 use xf_def_forest::{NodeId, NodeList};
 use xf_def_machine::Note;
@@ -19,18 +19,13 @@ use xf_store::Store;
 
 impl World for FormWorld {
     ghost use Rattle.xf_def_form.specs.Formed.{profile};
-    ghost use Rattle.xf_engine_state.specs.Does.{Stage};
-    ghost use Rattle.xf_engine_world.specs.State.{kept_of, state_of};
-
-    type Fault = EventFault;
+    ghost use Rattle.xf_engine_world.specs.State.{kept_state, state_of};
 
     ghost profile = { profile };
 
     ghost state = { state_of };
 
-    ghost Kept = { Stage };
-
-    ghost kept = { kept_of };
+    ghost kept = { kept_state };
 
     fn form(&self) -> &Form {
         elements::form(self)

@@ -1,17 +1,16 @@
 use Rattle.xf_store.proofs.CalledLaws.{called-none}
 use Rattle.xf_actions.proofs.Flow.{same-runs, stopped}
-use Rattle.xf_engine_world.specs.State.{state_of}
 use Rattle.xf_engine.proofs.EventLaws.{dispatch-tells, dispatch-unnamed}
 use Rattle.xf_engine.proofs.events.dispatch_to.Goals as goal
 
 pub returns-in_err-element-clause-done : goal.returns-in_err-element-clause-done
 returns-in_err-element-clause-done g c answers h =
-    stopped _ _ _ _ _ c.from_residual.ensures.1 (dispatch-unnamed answers (state_of c.args.world.now) c.args.name.now c.args.id.now _ _ c.in_err-element.ensures)
+    stopped _ _ _ _ _ c.from_residual.ensures.1 (dispatch-unnamed answers (g.W.World.state c.args.world.now) c.args.name.now c.args.id.now _ _ c.in_err-element.ensures)
 
 pub returns-in_err-element-clause-store : goal.returns-in_err-element-clause-store
 returns-in_err-element-clause-store g c = called-none _ _
 
 pub returns-clause-done : goal.returns-clause-done
 returns-clause-done g c answers h =
-    same-runs _ _ _ _ _ (dispatch-tells answers (state_of c.args.world.now) c.args.name.now c.args.id.now c.in_ok-element.element c.in_ok-element.ensures)
+    same-runs _ _ _ _ _ (dispatch-tells answers (g.W.World.state c.args.world.now) c.args.name.now c.args.id.now c.in_ok-element.element c.in_ok-element.ensures)
     (c.tell_element.ensures.done answers h)

@@ -1,10 +1,9 @@
 use Rattle.std.proofs.Common.{sym, ◌∙◌}
-use Rattle.xf_engine_world.specs.State.{state_of}
 use Rattle.xf_engine.proofs.NamingLaws.{first-model, other-model}
 use Rattle.xf_engine.proofs.naming.model.Goals as goal
 
 pub returns-then-is_empty : goal.returns-then-is_empty
-returns-then-is_empty c = first-model (state_of c.args.world.now) c.args.id.now _ (sym c.is_empty.ensures ∙ c.if-is_empty.true) c.model_element.ensures
+returns-then-is_empty g c = first-model (g.W.World.state c.args.world.now) c.args.id.now _ (sym c.is_empty.ensures ∙ c.if-is_empty.true) c.model_element.ensures
 
 pub returns : goal.returns
-returns c = other-model (state_of c.args.world.now) c.args.id.now _ (sym c.is_empty.ensures ∙ c.if-is_empty.false) c.target.ensures
+returns g c = other-model (g.W.World.state c.args.world.now) c.args.id.now _ (sym c.is_empty.ensures ∙ c.if-is_empty.false) c.target.ensures

@@ -2,4 +2,4 @@ use Rattle.std.proofs.Common.{length}
 use Rattle.xf_engine.proofs.rows.+take_each.Given as goal
 
 abbrev pub decreases-take_each : goal.decreases-take_each
-decreases-take_each l = length l.repeats.now
+decreases-take_each g l = length l.repeats.now

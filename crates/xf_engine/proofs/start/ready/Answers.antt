@@ -2,14 +2,13 @@ use Rattle.std.proofs.Common.{ap, refl}
 use Rattle.xf_def_machine.specs.State.{State}
 use Rattle.xf_actions.proofs.Flow.{refuses-none, stopped}
 use Rattle.xf_actions.proofs.Stores.{called-behind, called-both, covers-before}
-use Rattle.xf_engine_world.specs.State.{state_of}
 use Rattle.xf_engine.proofs.StartLaws.{ready-all, ready-first, ready-second, ready-third}
 use Rattle.xf_engine.proofs.start.ready.Goals as goal
 
 pub returns-in_err-tell_models-clause-done : goal.returns-in_err-tell_models-clause-done
 returns-in_err-tell_models-clause-done g c answers h =
     stopped _ _ _ _ _ c.from_residual.ensures.1
-    (ready-first answers (state_of c.args.world.now) (state_of c.begin_event.new.self) _ _ c.begin_event.ensures.now (c.in_err-tell_models.ensures.done answers h))
+    (ready-first answers (g.W.World.state c.args.world.now) (g.W.World.state c.begin_event.new.self) _ _ c.begin_event.ensures.now (c.in_err-tell_models.ensures.done answers h))
 
 pub returns-in_err-tell_models-clause-store : goal.returns-in_err-tell_models-clause-store
 returns-in_err-tell_models-clause-store g c = called-behind _ (ap (λ (s : State). s.calls) c.begin_event.ensures.now) c.in_err-tell_models.ensures.store
@@ -17,7 +16,7 @@ returns-in_err-tell_models-clause-store g c = called-behind _ (ap (λ (s : State
 pub returns-in_err-tell_models-2-clause-done : goal.returns-in_err-tell_models-2-clause-done
 returns-in_err-tell_models-2-clause-done g c answers h =
     stopped _ _ _ _ _ c.from_residual-in_err-tell_models-2.ensures.1
-    (ready-second answers (state_of c.args.world.now) (state_of c.begin_event.new.self) (state_of c.tell_models.new.world) _ _ c.begin_event.ensures.now
+    (ready-second answers (g.W.World.state c.args.world.now) (g.W.World.state c.begin_event.new.self) (g.W.World.state c.tell_models.new.world) _ _ c.begin_event.ensures.now
     (c.in_ok-tell_models.ensures.done answers (covers-before _ _ c.in_err-tell_models-2.ensures.store.grown answers h))
     (c.in_err-tell_models-2.ensures.done answers h))
 
@@ -29,7 +28,7 @@ pub returns-in_err-tell_models-3-clause-done : goal.returns-in_err-tell_models-3
 returns-in_err-tell_models-3-clause-done g c answers h =
     let k = covers-before _ _ c.in_err-tell_models-3.ensures.store.grown answers h in
     stopped _ _ _ _ _ c.from_residual-in_err-tell_models-3.ensures.1
-    (ready-third answers (state_of c.args.world.now) (state_of c.begin_event.new.self) (state_of c.tell_models.new.world) (state_of c.tell_models-2.new.world) _ _
+    (ready-third answers (g.W.World.state c.args.world.now) (g.W.World.state c.begin_event.new.self) (g.W.World.state c.tell_models.new.world) (g.W.World.state c.tell_models-2.new.world) _ _
     c.begin_event.ensures.now (c.in_ok-tell_models.ensures.done answers (covers-before _ _ c.in_ok-tell_models-2.ensures.store.grown answers k))
     (c.in_ok-tell_models-2.ensures.done answers k) (c.in_err-tell_models-3.ensures.done answers h))
 
@@ -49,8 +48,8 @@ returns-in_err-push_notes-clause-store g c =
 pub returns-clause-done : goal.returns-clause-done
 returns-clause-done g c answers h =
     let k = covers-before _ _ c.in_ok-tell_models-3.ensures.store.grown answers h in
-    ready-all answers (state_of c.args.world.now) (state_of c.begin_event.new.self) (state_of c.tell_models.new.world) (state_of c.tell_models-2.new.world)
-    (state_of c.tell_models-3.new.world) c.begin_event.ensures.now
+    ready-all answers (g.W.World.state c.args.world.now) (g.W.World.state c.begin_event.new.self) (g.W.World.state c.tell_models.new.world) (g.W.World.state c.tell_models-2.new.world)
+    (g.W.World.state c.tell_models-3.new.world) c.begin_event.ensures.now
     (c.in_ok-tell_models.ensures.done answers (covers-before _ _ c.in_ok-tell_models-2.ensures.store.grown answers k)) (c.in_ok-tell_models-2.ensures.done answers k)
     (c.in_ok-tell_models-3.ensures.done answers h)
 

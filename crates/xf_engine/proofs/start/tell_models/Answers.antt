@@ -7,13 +7,12 @@ use Rattle.xf_def_form.specs.Formed.{profile}
 use Rattle.xf_actions.proofs.Flow.{same-refuses, stopped}
 use Rattle.xf_actions.proofs.Rounds.{counted-end, counted-step, counted-stop}
 use Rattle.xf_actions.proofs.Stores.{called-both, covers-before}
-use Rattle.xf_engine_world.specs.State.{state_of}
 use Rattle.xf_engine.proofs.start.tell_models.Goals as goal
 
 pub loop-model-init : goal.loop-model-init
 loop-model-init g c =
     record {
-      rest = λ answers h. ap (λ n. in_turn (tell_model profile answers c.args.name.now) (counted_from 0 n) (state_of c.args.world.now)) (omega (arith, c.model_count-count.ensures));
+      rest = λ answers h. ap (λ n. in_turn (tell_model profile answers c.args.name.now) (counted_from 0 n) (g.W.World.state c.args.world.now)) (omega (arith, c.model_count-count.ensures));
       store = called-none _ _;
     }
 
@@ -22,7 +21,7 @@ loop-model-preserved g c =
     record {
       rest = λ answers h.
           c.loop-model.invariant.rest answers (covers-before _ _ c.in_ok-tell_model.ensures.store.grown answers h)
-          ∙ counted-step (tell_model profile answers c.args.name.now) _ _ _ _ (state_of c.loop-model.world) (state_of c.tell_model.new.world)
+          ∙ counted-step (tell_model profile answers c.args.name.now) _ _ _ _ (g.W.World.state c.loop-model.world) (g.W.World.state c.tell_model.new.world)
           (omega arith) (omega arith) (omega arith) (c.in_ok-tell_model.ensures.done answers h);
       store = called-both c.loop-model.invariant.store c.in_ok-tell_model.ensures.store;
     }
@@ -31,14 +30,14 @@ pub returns-in_err-tell_model-clause-done : goal.returns-in_err-tell_model-claus
 returns-in_err-tell_model-clause-done g c answers h =
     stopped _ _ _ _ _ c.from_residual.ensures.1
     (same-refuses _ _ _ _ (c.loop-model.invariant.rest answers (covers-before _ _ c.in_err-tell_model.ensures.store.grown answers h))
-    (counted-stop (tell_model profile answers c.args.name.now) _ _ (state_of c.loop-model.world) _ _ (omega arith) (c.in_err-tell_model.ensures.done answers h)))
+    (counted-stop (tell_model profile answers c.args.name.now) _ _ (g.W.World.state c.loop-model.world) _ _ (omega arith) (c.in_err-tell_model.ensures.done answers h)))
 
 pub returns-in_err-tell_model-clause-store : goal.returns-in_err-tell_model-clause-store
 returns-in_err-tell_model-clause-store g c = called-both c.loop-model.invariant.store c.in_err-tell_model.ensures.store
 
 pub returns-clause-done : goal.returns-clause-done
 returns-clause-done g c answers h =
-    c.loop-model.invariant.rest answers h ∙ counted-end (tell_model profile answers c.args.name.now) _ _ (state_of c.loop-model.world) (omega arith)
+    c.loop-model.invariant.rest answers h ∙ counted-end (tell_model profile answers c.args.name.now) _ _ (g.W.World.state c.loop-model.world) (omega arith)
 
 pub returns-clause-store : goal.returns-clause-store
 returns-clause-store g c = c.loop-model.invariant.store

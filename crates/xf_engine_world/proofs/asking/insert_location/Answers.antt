@@ -4,7 +4,7 @@ use Rattle.xf_def_xpath.specs.Binding.{as_list}
 use Rattle.xf_def_model.specs.Places.{held}
 use Rattle.xf_actions.specs.Seen.{focus_of}
 use Rattle.xf_actions.proofs.Flow.{same-reads}
-use Rattle.xf_engine_world.specs.Fault.{means}
+use Rattle.xf_actions.specs.Fault.{means}
 use Rattle.xf_engine_world.specs.State.{state_of}
 use Rattle.xf_events.proofs.AskLaws.{location-empty, location-named}
 use Rattle.xf_engine_world.proofs.asking.insert_location.Goals as goal

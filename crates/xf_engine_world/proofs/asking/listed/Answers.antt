@@ -1,7 +1,7 @@
 use Rattle.std.proofs.Common.{Ok, sym, ap, ◌∙◌}
 use Rattle.xf_def_xpath.specs.Binding.{as_list}
 use Rattle.xf_actions.proofs.Flow.{same-reads}
-use Rattle.xf_engine_world.specs.Fault.{means}
+use Rattle.xf_actions.specs.Fault.{means}
 use Rattle.xf_engine_world.specs.State.{state_of}
 use Rattle.xf_engine_world.proofs.asking.listed.Goals as goal
 

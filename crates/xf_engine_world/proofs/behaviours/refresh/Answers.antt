@@ -17,4 +17,4 @@ pub returns-clause-done : goal.returns-clause-done
 returns-clause-done c =
     let w = c.args.world.now in
     rw c.told_of-told.ensures.calls
-    (refresh-stopped (beside_in w) c.args.model w.work.now c.told_of-told.new.world.work.now c.in-Err.fault c.from.result c.in-Err.ensures.done c.from.ensures)
+    (refresh-stopped (beside_in w) c.args.model w.work.now c.told_of-told.new.world.work.now c.in-Err.fault c.event_fault.result c.in-Err.ensures.done c.event_fault.ensures)

@@ -1,5 +1,0 @@
-use Rattle.xf_engine_world.proofs.OutsideLaws.{plain}
-use Rattle.xf_engine_world.proofs.form_world.FormWorld.new.Goals as goal
-
-pub returns-clause-state : goal.returns-clause-state
-returns-clause-state c = plain c.args.work.now c.new.result c.new-2.result c.new.ensures c.new-2.ensures
