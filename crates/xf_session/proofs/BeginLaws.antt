@@ -25,19 +25,16 @@ use Rattle.xf_def_sessions.specs.Runs.{Item}
 use Rattle.xf_def_sessions.specs.Images.{StandsForNone}
 use Rattle.xf_def_sessions.specs.Opening.{Opened, opened, no_session, other_form, damaged}
 use Rattle.xf_def_sessions.specs.Usual.{usual}
-use Rattle.xf_session.specs.declared.fault.BeginFault.{BeginFault}
-use Rattle.xf_session.specs.declared.fault.BeginFault.TheVariants as begin
 use Rattle.xf_session.specs.declared.fault.OpenFault.{OpenFault}
-use Rattle.xf_session.specs.declared.fault.OpenFault.TheVariants.{OtherForm, Damaged, DiskFault, Memory}
-use Rattle.xf_session.specs.declared.fault.ResumeFault.{ResumeFault}
-use Rattle.xf_session.specs.declared.fault.ResumeFault.TheVariants as resume
+use Rattle.xf_session.specs.declared.fault.OpenFault.TheVariants.{Refused, OtherForm, Damaged, NoSession, DiskFault, Memory}
 use Rattle.xf_session.specs.declared.looking.Found.{Found}
 use Rattle.xf_session.specs.declared.session.Session.{Session}
-use Rattle.xf_session.specs.Faults.{of_journal, resume_of, begin_of}
-use Rattle.xf_session.specs.Opening.{start_with, opening_from, opening_form, opening_held, opening, damaged_by}
-use Rattle.xf_session.specs.Replaying.{IsFound, IsOfReading, Looks, HasOpenCause, Reopens, start_image, taken_bytes}
-use Rattle.xf_session.specs.Keeping.{Keeps, KeepsOne, KeepsNoItem, IsSession, IsAtDisk}
-use Rattle.xf_session.specs.Beginning.{IsBuilt, IsOpened, Resumes, Begins, KeepsOnGoing, StartsOnce, IsInHand, ResumesIn, BeginsIn, HasStarted, StartsIn, HasBeginCause, HasResumeCause}
+use Rattle.xf_session.specs.Faults.{of_journal}
+use Rattle.xf_session.specs.Opening.{start_with, opening_from, opening_form, adoptions_offset, counts_wrongly, opening_counted, opening_held, opening, damaged_by}
+use Rattle.xf_session.specs.Replaying.{IsFound, IsFoundCounted, IsOfReading, IsOfLooking, Looks, HasOpenCause, Reopens, start_image, taken_bytes}
+use Rattle.xf_journal.specs.declared.journal.Journal.{Journal}
+use Rattle.xf_session.specs.Keeping.{Keeps, KeepsOne, KeepsNoItem, IsSession, IsAtDisk, Rests, RestsAs}
+use Rattle.xf_session.specs.Beginning.{IsBuilt, IsOpened, Resumes, Begins, KeepsOnGoing, StartsOnce, IsInHand, ResumesIn, BeginsIn, HasStarted, StartsIn}
 use Rattle.xf_session.proofs.Offsets.{taken_fit}
 use Rattle.xf_session.proofs.Keeps.{keeps-opens, widened, runs-on}
 use Rattle.xf_session.proofs.PostLaws.{silent}
@@ -74,8 +71,10 @@ pub not-found-looks : (bytes : List ℕ) (r : Result (Option Log) JournalFault) 
     → ((log : Log) → scanned ≡ scanned_of log → IsFound bytes log (Err fault)) → Looks bytes r (Err fault)
 not-found-looks bytes (Err f) scanned fault h is = cc
 not-found-looks bytes (Ok None) scanned fault h is = cc
+not-found-looks bytes (Ok (Some log)) scanned (Refused refusal) h is = is log (some-same log scanned h)
 not-found-looks bytes (Ok (Some log)) scanned (OtherForm at) h is = is log (some-same log scanned h)
 not-found-looks bytes (Ok (Some log)) scanned (Damaged slot at) h is = is log (some-same log scanned h)
+not-found-looks bytes (Ok (Some log)) scanned NoSession h is = is log (some-same log scanned h)
 not-found-looks bytes (Ok (Some log)) scanned DiskFault h is = tt
 not-found-looks bytes (Ok (Some log)) scanned Memory h is = tt
 
@@ -84,22 +83,28 @@ none-held bytes (Err f) h = absurd h
 none-held bytes (Ok None) h = refl
 none-held bytes (Ok (Some log)) h = absurd h
 
+-- what was found, where the count of adoptions is right
+found-right : (bytes : List ℕ) (log : Log) (found : Found) (b : Bool) → counts_wrongly log ≡ b → IsFoundCounted b bytes log (Ok found) → (counts_wrongly log ≡ false) × IsFoundCounted false bytes log (Ok found)
+found-right bytes log found true e h = absurd h
+found-right bytes log found false e h = (e, h)
+
 held-log : (bytes : List ℕ) (r : Result (Option Log) JournalFault) (found : Found) → Looks bytes r (Ok (Some found)) → (log : Log) × (r ≡ Ok (Some log)) × (found.scanned ≡ scanned_of log)
 held-log bytes (Err f) found h = absurd h
 held-log bytes (Ok None) found h = absurd h
-held-log bytes (Ok (Some log)) found h = (log, refl, h.0)
+held-log bytes (Ok (Some log)) found h = (log, refl, (found-right bytes log found (counts_wrongly log) refl h).1.0)
 
 -- the journal that was read is at rest
 pub rest-opened : {P D : Type 0} (tells : D → Bool) (seen : D → Image) (may_leave : D → Image → Type 0) (moment : D → ℕ) (left_since : D → ℕ → Image → Type 0) (bytes : List ℕ) (old new : D) (session : Session P) (found : Found)
     → OnlyLooks tells seen may_leave moment left_since old new → Looks bytes (held (seen old)) (Ok (Some found))
-    → IsSettled (seen new) (may_leave new) → session.journal ≡ found.scanned.journal → found.scanned.cut ≡ None → IsAtDisk seen may_leave session new
+    → IsSettled (seen new) (may_leave new) → session.journal ≡ Some found.scanned.journal → found.scanned.cut ≡ None → IsAtDisk seen may_leave session new
 rest-opened tells seen may_leave moment left_since bytes old new session found looks is settled journal cut = λ whole.
-    let r = held-log bytes (held (seen old)) found is in (
+    let r = held-log bytes (held (seen old)) found is in
+    subst (λ (j : Option Journal). Rests seen may_leave j new) (sym journal) (
       r.0,
       record {
         holds = ap held looks.same_seen ∙ r.1;
         whole = sym (ap (λ (x : Scanned). x.cut) r.2) ∙ cut;
-        in_hand = journal ∙ ap (λ (x : Scanned). x.journal) r.2;
+        in_hand = ap (λ (x : Scanned). x.journal) r.2;
         settled = settled;
       },
     )
@@ -108,44 +113,76 @@ rest-opened tells seen may_leave moment left_since bytes old new session found l
 
 -- a fault of the slots is what opening gives
 abbrev pub FaultIs : Opened → OpenFault → Type 0
+FaultIs found (Refused refusal) = ⊥
 FaultIs found (OtherForm at) = found ≡ other_form at
 FaultIs found (Damaged slot at) = found ≡ damaged slot at
+FaultIs found NoSession = ⊥
 FaultIs found DiskFault = Unit {0}
 FaultIs found Memory = Unit {0}
 
-looks-fault-held : (bytes : List ℕ) (program : Program) (r : Result (Option Log) JournalFault) (fault : OpenFault) → Looks bytes r (Err fault) → FaultIs (opening_held profile bytes program r) fault
-looks-fault-held bytes program (Err f) (OtherForm at) h = absurd h
-looks-fault-held bytes program (Err f) (Damaged slot at) h = ap damaged_by h
-looks-fault-held bytes program (Ok None) (OtherForm at) h = absurd h
-looks-fault-held bytes program (Ok None) (Damaged slot at) h = absurd h
-looks-fault-held bytes program (Ok (Some log)) (OtherForm at) h = ap (opening_form profile program log) h
-looks-fault-held bytes program (Ok (Some log)) (Damaged slot at) h =
+-- of a journal, by whether the count of adoptions is right
+found-fault : (bytes : List ℕ) (program : Program) (log : Log) (b : Bool) (fault : OpenFault) → IsFoundCounted b bytes log (Err fault) → FaultIs (opening_counted profile bytes program log b) fault
+found-fault bytes program log true (Refused refusal) h = absurd h
+found-fault bytes program log true (OtherForm at) h = absurd h
+found-fault bytes program log true (Damaged slot at) h = λ i. damaged (sym h.0 i) (sym h.1 i)
+found-fault bytes program log true NoSession h = absurd h
+found-fault bytes program log true DiskFault h = absurd h
+found-fault bytes program log true Memory h = tt
+found-fault bytes program log false (Refused refusal) h = absurd h
+found-fault bytes program log false (OtherForm at) h = ap (opening_form profile program log) h
+found-fault bytes program log false (Damaged slot at) h =
     ap (opening_form profile program log) h.0 ∙ ap (λ o. opening_from profile log (start_with profile program o)) h.1
     ∙ (λ i. damaged (sym h.2 i) (sym h.3 i))
+found-fault bytes program log false NoSession h = absurd h
+found-fault bytes program log false DiskFault h = absurd h
+found-fault bytes program log false Memory h = tt
+
+looks-fault-held : (bytes : List ℕ) (program : Program) (r : Result (Option Log) JournalFault) (fault : OpenFault) → Looks bytes r (Err fault) → FaultIs (opening_held profile bytes program r) fault
+looks-fault-held bytes program (Err f) (Refused refusal) h = absurd h
+looks-fault-held bytes program (Err f) (OtherForm at) h = absurd h
+looks-fault-held bytes program (Err f) (Damaged slot at) h = ap damaged_by h
+looks-fault-held bytes program (Err f) NoSession h = absurd h
+looks-fault-held bytes program (Ok None) (Refused refusal) h = absurd h
+looks-fault-held bytes program (Ok None) (OtherForm at) h = absurd h
+looks-fault-held bytes program (Ok None) (Damaged slot at) h = absurd h
+looks-fault-held bytes program (Ok None) NoSession h = absurd h
+looks-fault-held bytes program (Ok (Some log)) (Refused refusal) h = found-fault bytes program log (counts_wrongly log) (Refused refusal) h
+looks-fault-held bytes program (Ok (Some log)) (OtherForm at) h = found-fault bytes program log (counts_wrongly log) (OtherForm at) h
+looks-fault-held bytes program (Ok (Some log)) (Damaged slot at) h = found-fault bytes program log (counts_wrongly log) (Damaged slot at) h
+looks-fault-held bytes program (Ok (Some log)) NoSession h = found-fault bytes program log (counts_wrongly log) NoSession h
 looks-fault-held bytes program r DiskFault h = tt
 looks-fault-held bytes program r Memory h = tt
 
 reopens-fault : {T : Type 0} (state : T → State) (found : Opened) (fault : OpenFault) → Reopens state found (Err fault) → FaultIs found fault
+reopens-fault state found (Refused refusal) h = absurd h
 reopens-fault state found (OtherForm at) h = h
 reopens-fault state found (Damaged slot at) h = h
+reopens-fault state found NoSession h = absurd h
 reopens-fault state found DiskFault h = tt
 reopens-fault state found Memory h = tt
 
-any-fault : (fault : OpenFault) → (found : Opened) × FaultIs found fault
-any-fault (OtherForm at) = (other_form at, refl)
-any-fault (Damaged slot at) = (damaged slot at, refl)
-any-fault DiskFault = (no_session, tt)
-any-fault Memory = (no_session, tt)
+-- of a fault in reading, where nothing is told of the disk
+any-fault : (fault : OpenFault) → IsOfLooking fault → (found : Opened) × FaultIs found fault
+any-fault (Refused refusal) is = absurd is
+any-fault (OtherForm at) is = (other_form at, refl)
+any-fault (Damaged slot at) is = (damaged slot at, refl)
+any-fault NoSession is = absurd is
+any-fault DiskFault is = (no_session, tt)
+any-fault Memory is = (no_session, tt)
 
-resume-fault : {P : Type 0} (state : P → State) (found : Opened) (fault : OpenFault) → FaultIs found fault → Resumes state found (Err (resume_of fault))
+resume-fault : {P : Type 0} (state : P → State) (found : Opened) (fault : OpenFault) → FaultIs found fault → Resumes state found (Err fault)
+resume-fault state found (Refused refusal) h = absurd h
 resume-fault state found (OtherForm at) h = h
 resume-fault state found (Damaged slot at) h = h
+resume-fault state found NoSession h = absurd h
 resume-fault state found DiskFault h = tt
 resume-fault state found Memory h = tt
 
-begin-fault : {P : Type 0} (state : P → State) (found : Opened) (fault : OpenFault) (text : List ℕ) (given : Outcome) → FaultIs found fault → Begins state found (Err (begin_of fault)) [] text text given
+begin-fault : {P : Type 0} (state : P → State) (found : Opened) (fault : OpenFault) (text : List ℕ) (given : Outcome) → FaultIs found fault → Begins state found (Err fault) [] text text given
+begin-fault state found (Refused refusal) text given h = absurd h
 begin-fault state found (OtherForm at) text given h = (h, record { calls = refl; text = refl })
 begin-fault state found (Damaged slot at) text given h = (h, record { calls = refl; text = refl })
+begin-fault state found NoSession text given h = absurd h
 begin-fault state found DiskFault text given h = tt
 begin-fault state found Memory text given h = tt
 
@@ -157,36 +194,38 @@ open-cause before now (journal.Damaged slot at) h = record { later = h.later; fa
 open-cause before now journal.Memory h = record { later = h.later; failed = λ e. cc }
 
 reading-cause : {T : Type 0} (before now : ℕ) (fault : OpenFault) → before ≤ now → IsOfReading fault → HasOpenCause {T = T} before now (Err fault)
+reading-cause before now (Refused refusal) le h = absurd h
 reading-cause before now (OtherForm at) le h = record { later = le; failed = λ e. cc }
 reading-cause before now (Damaged slot at) le h = record { later = le; failed = λ e. cc }
+reading-cause before now NoSession le h = absurd h
 reading-cause before now DiskFault le h = absurd h
 reading-cause before now Memory le h = record { later = le; failed = λ e. cc }
 
+-- a reading that is behind the calls of the disk
 pub not-found-cause : {T U : Type 0} (before now : ℕ) (result : Result T JournalFault) (fault : OpenFault) → HasDiskCause before now result → IsOfReading fault → HasOpenCause {T = U} before now (Err fault)
 not-found-cause {T} {U} before now result fault h is = reading-cause {T = U} before now fault h.later is
 
-pub resume-cause : {P T : Type 0} (before now : ℕ) (fault : OpenFault) → HasOpenCause {T = T} before now (Err fault) → HasResumeCause {P = P} before now (Err (resume_of fault))
-resume-cause before now (OtherForm at) h = record { later = h.later; failed = λ e. cc }
-resume-cause before now (Damaged slot at) h = record { later = h.later; failed = λ e. cc }
-resume-cause before now DiskFault h = record { later = h.later; failed = λ e. h.failed refl }
-resume-cause before now Memory h = record { later = h.later; failed = λ e. cc }
-
-pub begin-cause : {P T : Type 0} (before now : ℕ) (fault : OpenFault) → HasOpenCause {T = T} before now (Err fault) → HasBeginCause {T = P} before now (Err (begin_of fault))
-begin-cause before now (OtherForm at) h = record { later = h.later; failed = λ e. cc }
-begin-cause before now (Damaged slot at) h = record { later = h.later; failed = λ e. cc }
-begin-cause before now DiskFault h = record { later = h.later; failed = λ e. h.failed refl }
-begin-cause before now Memory h = record { later = h.later; failed = λ e. cc }
-
 -- a reopening is no call of the disk
-pub begin-reopen-cause : {P T : Type 0} (before now : ℕ) (result : Result T OpenFault) (fault : OpenFault) (r : BeginFault) → HasOpenCause before now result → IsOfReading fault → r ≡ begin_of fault
-    → HasBeginCause {T = P} before now (Err r)
-begin-reopen-cause {P} {T} before now result fault r h is e =
-    subst (λ (x : BeginFault). HasBeginCause {T = P} before now (Err x)) (sym e) (begin-cause {P = P} {T = T} before now fault (reading-cause {T = T} before now fault h.later is))
+pub reopen-cause : {P T : Type 0} (before now : ℕ) (result : Result T OpenFault) (fault : OpenFault) → HasOpenCause before now result → IsOfReading fault → HasOpenCause {T = P} before now (Err fault)
+reopen-cause {P} {T} before now result fault h is = reading-cause {T = P} before now fault h.later is
 
-pub resume-reopen-cause : {P T : Type 0} (before now : ℕ) (result : Result T OpenFault) (fault : OpenFault) (r : ResumeFault) → HasOpenCause before now result → IsOfReading fault → r ≡ resume_of fault
-    → HasResumeCause {P = P} before now (Err r)
-resume-reopen-cause {P} {T} before now result fault r h is e =
-    subst (λ (x : ResumeFault). HasResumeCause {P = P} before now (Err x)) (sym e) (resume-cause {P = P} {T = T} before now fault (reading-cause {T = T} before now fault h.later is))
+-- a fault is the same of whatever would have been opened
+pub other-cause : {P T : Type 0} (before now : ℕ) (fault : OpenFault) → HasOpenCause {T = T} before now (Err fault) → HasOpenCause {T = P} before now (Err fault)
+other-cause before now (Refused refusal) h = record { later = h.later; failed = λ e. cc }
+other-cause before now (OtherForm at) h = record { later = h.later; failed = λ e. cc }
+other-cause before now (Damaged slot at) h = record { later = h.later; failed = λ e. cc }
+other-cause before now NoSession h = record { later = h.later; failed = λ e. cc }
+other-cause before now DiskFault h = record { later = h.later; failed = λ e. h.failed refl }
+other-cause before now Memory h = record { later = h.later; failed = λ e. cc }
+
+-- a fault of reading alone is one of looking
+pub looking-of : (fault : OpenFault) → IsOfReading fault → IsOfLooking fault
+looking-of (Refused refusal) h = absurd h
+looking-of (OtherForm at) h = tt
+looking-of (Damaged slot at) h = tt
+looking-of NoSession h = absurd h
+looking-of DiskFault h = tt
+looking-of Memory h = tt
 
 -- ---- by what is found
 
@@ -216,12 +255,15 @@ module _ {P D : Type 0} (state : P → State) (tells : D → Bool) (seen : D →
   read-held : (image : Image) (found : Found) (r : Result (Option Log) JournalFault) → held image ≡ r → Looks bytes r (Ok (Some found)) → Read image found
   read-held image found (Err f) e h = absurd h
   read-held image found (Ok None) e h = absurd h
-  read-held image found (Ok (Some log)) e h = record {
-    log = log;
-    holds = e;
-    scanned = h.0;
-    is = ap (opening_held profile bytes program) e ∙ ap (opening_form profile program log) h.1 ∙ ap (λ o. opening_from profile log (start_with profile program o)) h.2;
-  }
+  read-held image found (Ok (Some log)) e h =
+      let right = found-right bytes log found (counts_wrongly log) refl h in
+      record {
+        log = log;
+        holds = e;
+        scanned = right.1.0;
+        is = ap (opening_held profile bytes program) e ∙ ap (opening_counted profile bytes program log) right.0 ∙ ap (opening_form profile program log) right.1.1
+            ∙ ap (λ o. opening_from profile log (start_with profile program o)) right.1.2;
+      }
 
   -- ---- only looked
 
@@ -239,7 +281,7 @@ module _ {P D : Type 0} (state : P → State) (tells : D → Bool) (seen : D →
     looks : OnlyLooks tells seen may_leave moment left_since old new
     log : Log
     holds : held (seen old) ≡ Ok (Some log)
-    journal : session.journal ≡ journal_of log
+    journal : session.journal ≡ Some (journal_of log)
     settled : IsSettled (seen new) (may_leave new)
     s : history.Session
     opens : opening profile bytes program (seen old) ≡ opened s
@@ -261,12 +303,8 @@ module _ {P D : Type 0} (state : P → State) (tells : D → Bool) (seen : D →
         keeps.0,
         record {
           log = log;
-          rest = record {
-            holds = ap held o.looks.same_seen ∙ keeps.1.1;
-            whole = keeps.1.2.whole;
-            in_hand = o.journal ∙ ap journal_of one;
-            settled = o.settled;
-          };
+          rest = subst (λ (j : Option Journal). RestsAs seen may_leave j log new) (sym o.journal)
+              (record { holds = ap held o.looks.same_seen ∙ keeps.1.1; whole = keeps.1.2.whole; in_hand = ap journal_of one; settled = o.settled });
           keeps = keeps.1.2;
           same = o.same ∙ ap (λ (x : history.Session). x.state) last;
           whole = o.whole;
@@ -305,13 +343,13 @@ module _ {P D : Type 0} (state : P → State) (tells : D → Bool) (seen : D →
 
   -- what was read and reopened, where the disk tells
   reopening : (old new : D) (session : Session P) (found : Found) (s : history.Session) (r : Read (seen old) found) → OnlyLooks tells seen may_leave moment left_since old new
-      → IsSettled (seen new) (may_leave new) → session.journal ≡ found.scanned.journal → session.is_broken ≡ false
+      → IsSettled (seen new) (may_leave new) → session.journal ≡ Some found.scanned.journal → session.is_broken ≡ false
       → opening_from profile r.log (start_with profile program (Some found.answers)) ≡ opened s → state session.processor ≡ s.state → Opening old new session
   reopening old new session found s r looks settled journal whole opens same = record {
     looks = looks;
     log = r.log;
     holds = r.holds;
-    journal = journal ∙ ap (λ (x : Scanned). x.journal) r.scanned;
+    journal = journal ∙ ap (λ (x : Scanned). Some x.journal) r.scanned;
     settled = settled;
     s = s;
     opens = r.is ∙ opens;
@@ -329,7 +367,7 @@ module _ {P D : Type 0} (state : P → State) (tells : D → Bool) (seen : D →
   -- ---- the session that was opened
 
   opening-of : (old new : D) (session : Session P) (p : P) (found : Found) → OnlyLooks tells seen may_leave moment left_since old new → Looks bytes (held (seen old)) (Ok (Some found))
-      → IsSettled (seen new) (may_leave new) → Reopened found (Ok p) → session.processor ≡ p → session.journal ≡ found.scanned.journal → session.is_broken ≡ false → Opening old new session
+      → IsSettled (seen new) (may_leave new) → Reopened found (Ok p) → session.processor ≡ p → session.journal ≡ Some found.scanned.journal → session.is_broken ≡ false → Opening old new session
   opening-of old new session p found looks is settled reopens processor journal whole =
       let r = read-held (seen old) found (held (seen old)) refl is in
       let found_is = reopened-by old found (Ok p) reopens r in
@@ -352,7 +390,7 @@ module _ {P D : Type 0} (state : P → State) (tells : D → Bool) (seen : D →
 
   pub resumed : (first : State) (old new : D) (session : Session P) (p : P) (found : Found) → IsBuilt bytes program first → OnlyLooks tells seen may_leave moment left_since old new
       → (IsTrue (tells old) → Looks bytes (held (seen old)) (Ok (Some found))) → (IsTrue (tells old) → IsSettled (seen new) (may_leave new)) → Reopened found (Ok p)
-      → session.processor ≡ p → session.journal ≡ found.scanned.journal → session.is_broken ≡ false
+      → session.processor ≡ p → session.journal ≡ Some found.scanned.journal → session.is_broken ≡ false
       → ResumesIn state tells seen may_leave moment left_since bytes program (Ok session) old new
   resumed first old new session p found built looks is settled reopens processor journal whole =
       let o : IsTrue (tells old) → Opening old new session = λ told. opening-of old new session p found looks (is told) (settled told) reopens processor journal whole in
@@ -361,37 +399,37 @@ module _ {P D : Type 0} (state : P → State) (tells : D → Bool) (seen : D →
         found = by.0;
         told = by.1;
         is = by.2;
-        on = λ told. opened-on ResumeFault old new session built.form told (o told);
-        once = λ told. opened-once ResumeFault old new session built.form told (o told);
+        on = λ told. opened-on OpenFault old new session built.form told (o told);
+        once = λ told. opened-once OpenFault old new session built.form told (o told);
       }
 
-  pub not-resumed : (old new : D) (fault : OpenFault) → OnlyLooks tells seen may_leave moment left_since old new → (IsTrue (tells old) → FaultIs (opening profile bytes program (seen old)) fault)
-      → ResumesIn state tells seen may_leave moment left_since bytes program (Err (resume_of fault)) old new
-  not-resumed old new fault looks is =
-      let any = any-fault fault in
-      let by = found-by old (λ found. Resumes state found (Err (resume_of fault))) (λ told. resume-fault state (opening profile bytes program (seen old)) fault (is told)) (any.0, resume-fault state any.0 fault any.1) in
+  pub not-resumed : (old new : D) (fault : OpenFault) → IsOfLooking fault → OnlyLooks tells seen may_leave moment left_since old new → (IsTrue (tells old) → FaultIs (opening profile bytes program (seen old)) fault)
+      → ResumesIn state tells seen may_leave moment left_since bytes program (Err fault) old new
+  not-resumed old new fault only looks is =
+      let any = any-fault fault only in
+      let by = found-by old (λ found. Resumes state found (Err fault)) (λ told. resume-fault state (opening profile bytes program (seen old)) fault (is told)) (any.0, resume-fault state any.0 fault any.1) in
       record {
         found = by.0;
         told = by.1;
         is = by.2;
-        on = λ told. fault-on (resume_of fault) old new looks;
-        once = λ told. fault-once (resume_of fault) old new looks;
+        on = λ told. fault-on fault old new looks;
+        once = λ told. fault-once fault old new looks;
       }
 
-  pub not-resumed-as : (result : Result (Session P) ResumeFault) (old new : D) (fault : OpenFault) → result ≡ Err (resume_of fault) → OnlyLooks tells seen may_leave moment left_since old new
+  pub not-resumed-as : (result : Result (Session P) OpenFault) (old new : D) (fault : OpenFault) → result ≡ Err fault → IsOfLooking fault → OnlyLooks tells seen may_leave moment left_since old new
       → (IsTrue (tells old) → FaultIs (opening profile bytes program (seen old)) fault) → ResumesIn state tells seen may_leave moment left_since bytes program result old new
-  not-resumed-as result old new fault e looks is = subst (λ r. ResumesIn state tells seen may_leave moment left_since bytes program r old new) (sym e) (not-resumed old new fault looks is)
+  not-resumed-as result old new fault e only looks is = subst (λ r. ResumesIn state tells seen may_leave moment left_since bytes program r old new) (sym e) (not-resumed old new fault only looks is)
 
   pub none-resumed : (old new : D) → OnlyLooks tells seen may_leave moment left_since old new → (IsTrue (tells old) → Looks bytes (held (seen old)) (Ok None))
-      → ResumesIn state tells seen may_leave moment left_since bytes program (Err resume.NoSession) old new
+      → ResumesIn state tells seen may_leave moment left_since bytes program (Err NoSession) old new
   none-resumed old new looks is =
       let by = found-by old (λ found. found ≡ no_session) (λ told. ap (opening_held profile bytes program) (none-held bytes (held (seen old)) (is told))) (no_session, refl) in
       record {
         found = by.0;
         told = by.1;
         is = by.2;
-        on = λ told. fault-on resume.NoSession old new looks;
-        once = λ told. fault-once resume.NoSession old new looks;
+        on = λ told. fault-on NoSession old new looks;
+        once = λ told. fault-once NoSession old new looks;
       }
 
   -- ---- begin
@@ -399,7 +437,7 @@ module _ {P D : Type 0} (state : P → State) (tells : D → Bool) (seen : D →
   pub reopened-begins : (first : State) (old new : D) (session : Session P) (p : P) (found : Found) (told_store : Told) (text : List ℕ) → IsBuilt bytes program first
       → OnlyLooks tells seen may_leave moment left_since old new
       → (IsTrue (tells old) → Looks bytes (held (seen old)) (Ok (Some found))) → (IsTrue (tells old) → IsSettled (seen new) (may_leave new)) → Reopened found (Ok p)
-      → session.processor ≡ p → session.journal ≡ found.scanned.journal → session.is_broken ≡ false
+      → session.processor ≡ p → session.journal ≡ Some found.scanned.journal → session.is_broken ≡ false
       → BeginsIn state tells seen may_leave moment left_since bytes program (Ok session) told_store told_store text text old new
   reopened-begins first old new session p found told_store text built looks is settled reopens processor journal whole =
       let o : IsTrue (tells old) → Opening old new session = λ told. opening-of old new session p found looks (is told) (settled told) reopens processor journal whole in
@@ -412,15 +450,15 @@ module _ {P D : Type 0} (state : P → State) (tells : D → Bool) (seen : D →
         told = by.1;
         is = λ answers covers. inl (by.2, record { calls = refl; text = refl });
         used = λ told. let i = o told in (i.log, (i.journal, inl (i.s, by.1 told ∙ i.opens, i.holds)));
-        on = λ told. opened-on BeginFault old new session built.form told (o told);
-        once = λ told. opened-once BeginFault old new session built.form told (o told);
+        on = λ told. opened-on OpenFault old new session built.form told (o told);
+        once = λ told. opened-once OpenFault old new session built.form told (o told);
       }
 
-  pub not-begun : (old new : D) (fault : OpenFault) (told_store : Told) (text : List ℕ) → OnlyLooks tells seen may_leave moment left_since old new
+  pub not-begun : (old new : D) (fault : OpenFault) (told_store : Told) (text : List ℕ) → IsOfLooking fault → OnlyLooks tells seen may_leave moment left_since old new
       → (IsTrue (tells old) → FaultIs (opening profile bytes program (seen old)) fault)
-      → BeginsIn state tells seen may_leave moment left_since bytes program (Err (begin_of fault)) told_store told_store text text old new
-  not-begun old new fault told_store text looks is =
-      let by = found-by old (λ found. FaultIs found fault) is (any-fault fault) in
+      → BeginsIn state tells seen may_leave moment left_since bytes program (Err fault) told_store told_store text text old new
+  not-begun old new fault told_store text only looks is =
+      let by = found-by old (λ found. FaultIs found fault) is (any-fault fault only) in
       record {
         made = [];
         called = silent told_store;
@@ -429,42 +467,43 @@ module _ {P D : Type 0} (state : P → State) (tells : D → Bool) (seen : D →
         told = by.1;
         is = λ answers covers. begin-fault state by.0 fault text (start profile program answers) by.2;
         used = λ told. tt;
-        on = λ told. fault-on (begin_of fault) old new looks;
-        once = λ told. fault-once (begin_of fault) old new looks;
+        on = λ told. fault-on fault old new looks;
+        once = λ told. fault-once fault old new looks;
       }
 
-  pub not-begun-as : (result : Result (Session P) BeginFault) (old new : D) (fault : OpenFault) (told_store : Told) (text : List ℕ) → result ≡ Err (begin_of fault) → OnlyLooks tells seen may_leave moment left_since old new
+  pub not-begun-as : (result : Result (Session P) OpenFault) (old new : D) (fault : OpenFault) (told_store : Told) (text : List ℕ) → result ≡ Err fault → IsOfLooking fault → OnlyLooks tells seen may_leave moment left_since old new
       → (IsTrue (tells old) → FaultIs (opening profile bytes program (seen old)) fault)
       → BeginsIn state tells seen may_leave moment left_since bytes program result told_store told_store text text old new
-  not-begun-as result old new fault told_store text e looks is =
-      subst (λ r. BeginsIn state tells seen may_leave moment left_since bytes program r told_store told_store text text old new) (sym e) (not-begun old new fault told_store text looks is)
+  not-begun-as result old new fault told_store text e only looks is =
+      subst (λ r. BeginsIn state tells seen may_leave moment left_since bytes program r told_store told_store text text old new) (sym e) (not-begun old new fault told_store text only looks is)
 
-  started-begins : (found : Opened) (result : Result (Session P) BeginFault) (made : List StoreCall) (old_text new_text : List ℕ) (given : Outcome) → found ≡ no_session
+  started-begins : (found : Opened) (result : Result (Session P) OpenFault) (made : List StoreCall) (old_text new_text : List ℕ) (given : Outcome) → found ≡ no_session
       → HasStarted state result made old_text new_text given → Begins state found result made old_text new_text given
   started-begins found (Ok session) made old_text new_text given none h = inr (record { none = none; posted = h.0; is = h.1; text = h.2 })
-  started-begins found (Err (begin.Refused refusal)) made old_text new_text given none h = (none, h)
-  started-begins found (Err (begin.OtherForm at)) made old_text new_text given none h = absurd h
-  started-begins found (Err (begin.Damaged slot at)) made old_text new_text given none h = absurd h
-  started-begins found (Err begin.DiskFault) made old_text new_text given none h = tt
-  started-begins found (Err begin.Memory) made old_text new_text given none h = tt
+  started-begins found (Err (Refused refusal)) made old_text new_text given none h = (none, h)
+  started-begins found (Err (OtherForm at)) made old_text new_text given none h = absurd h
+  started-begins found (Err (Damaged slot at)) made old_text new_text given none h = absurd h
+  started-begins found (Err NoSession) made old_text new_text given none h = absurd h
+  started-begins found (Err DiskFault) made old_text new_text given none h = tt
+  started-begins found (Err Memory) made old_text new_text given none h = tt
 
   -- no list of items is kept where the slots hold none
   no-items : (answers : List Answer) (items others : List Item) (image : Image) → held image ≡ Ok None → KeepsOne bytes answers items others image → ⊥
   no-items answers items others image none (inl h) = not-none h.1.0 (held image) h.1.1 none
   no-items answers items others image none (inr h) = not-none h.1.0 (held image) h.1.1 none
 
-  on-session : (result : Result (Session P) BeginFault) (answers : List Answer) (new : D) → IfOk result (λ session. IsSession state seen may_leave bytes answers [] session new)
+  on-session : (result : Result (Session P) OpenFault) (answers : List Answer) (new : D) → IfOk result (λ session. IsSession state seen may_leave bytes answers [] session new)
       → IfOk result (λ session. (answers : List Answer) × IsSession state seen may_leave bytes answers [] session new)
   on-session (Ok session) answers new h = (answers, h)
   on-session (Err fault) answers new h = tt
 
-  new-hand : (result : Result (Session P) BeginFault) (image : Image) (found : Opened) (answers : List Answer) → found ≡ no_session
-      → IfOk result (λ session. session.journal ≡ journal_of (new_log A 1 (start_image bytes answers)))
+  new-hand : (result : Result (Session P) OpenFault) (image : Image) (found : Opened) (answers : List Answer) → found ≡ no_session
+      → IfOk result (λ session. session.journal ≡ Some (journal_of (new_log A 1 (start_image bytes answers))))
       → IfOk result (λ session. (log : Log) × IsInHand image bytes answers found session.journal log)
   new-hand (Ok session) image found answers none is = (new_log A 1 (start_image bytes answers), (is, inr (none, refl)))
   new-hand (Err fault) image found answers none is = tt
 
-  pub new-begins : (old mid new : D) (result : Result (Session P) BeginFault) (first last : Told) (old_text new_text : List ℕ) → OnlyLooks tells seen may_leave moment left_since old mid
+  pub new-begins : (old mid new : D) (result : Result (Session P) OpenFault) (first last : Told) (old_text new_text : List ℕ) → OnlyLooks tells seen may_leave moment left_since old mid
       → (IsTrue (tells old) → Looks bytes (held (seen old)) (Ok None)) → (IsTrue (tells old) → IsSettled (seen mid) (may_leave mid))
       → StartsIn state tells seen may_leave moment left_since bytes program result first last old_text new_text mid new
       → BeginsIn state tells seen may_leave moment left_since bytes program result first last old_text new_text old new

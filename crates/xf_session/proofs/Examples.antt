@@ -60,3 +60,8 @@ answer_damaged = refl
 snap_damaged : opening profile first_bytes first_program (alone compact_slot) ≡ damaged A 148
 unfolding from_four from_eight
 snap_damaged = refl
+
+-- an adoption before a start, which is told before the form is compared
+adoption_damaged : opening profile second_bytes first_program (alone (slot_of 50 1 2 (1 ∷ 0 ∷ 0 ∷ 0 ∷ []) first_bytes ++ 0 ∷ 0 ∷ 0 ∷ [])) ≡ damaged A 21
+unfolding from_four from_eight
+adoption_damaged = refl

@@ -1,5 +1,5 @@
 -- What slots that keep a session open to, and what calls of the journal leave of it.
-use Rattle.std.proofs.Common.{ℕ, zero, suc, ◌+◌, ◌≡◌, ◌≤◌, ◌⊎◌, inl, inr, Bool, true, false, if◌then◌else◌, ◌==◌, List, [], ◌∷◌, ◌++◌, length, Option, Some, None, Result, Ok, Err, refl, sym, ap, ◌∙◌, subst, arith, le_refl}
+use Rattle.std.proofs.Common.{ℕ, zero, suc, ◌+◌, ◌≡◌, ◌≤◌, ◌⊎◌, inl, inr, Bool, true, false, if◌then◌else◌, ◌==◌, ◌&&◌, List, [], ◌∷◌, ◌++◌, length, Option, Some, None, Result, Ok, Err, refl, sym, ap, ◌∙◌, subst, arith, le_refl}
 use Rattle.std.proofs.lemmas.Bool.Decides.{nat_tests}
 use Rattle.xf_disk.specs.declared.slot.Slot.TheVariants.{A, B}
 use Rattle.xf_disk.specs.Image.{Image, in_slot}
@@ -36,8 +36,8 @@ use Rattle.xf_def_sessions.specs.Opening.{opened, difference_from, first_gate, a
 use Rattle.xf_def_sessions.specs.Usual.{usual}
 use Rattle.xf_def_sessions.proofs.RunLaws.{IsLine, AreLines, ran-on, one-more, mapped}
 use Rattle.xf_def_sessions.proofs.EntryLaws.{joined-items, items-lines, items-more}
-use Rattle.xf_session.specs.Opening.{start_with, opening_from, opening_form, opening_held, opening}
-use Rattle.xf_session.specs.Keeping.{LogKeeps, KeepsAt, Keeps, KeepsOne, KeepsNoItem}
+use Rattle.xf_session.specs.Opening.{start_with, opening_from, opening_form, counts_wrongly, opening_counted, opening_held, opening, begins_start}
+use Rattle.xf_session.specs.Keeping.{LogKeeps, KeepsAt, Keeps, KeepsOne, KeepsNoItem, RestsAs}
 use Rattle.xf_session.specs.Replaying.{start_image}
 
 -- ---- what is kept opens
@@ -101,11 +101,16 @@ log-opens bytes program answers items last log form keeps =
     ∙ ap (λ o. at_cut log.kept.slot o (fresh_session log.kept.form log.kept.adoptions last.state)) keeps.whole
     ∙ (λ i. opened (fresh_session (keeps.form i) (keeps.adoptions i) last.state))
 
+-- no adoption is counted
+counts-right : (log : Log) → log.kept.adoptions ≡ 0 → counts_wrongly log ≡ false
+counts-right log e = ap (λ n. nat_lt 0 n && begins_start log.kept.base) e
+
 -- slots that keep a session open to it
 pub keeps-opens : (bytes : List ℕ) (program : Program) (answers : List Answer) (items : List Item) (last : history.Session) (image : Image) → usual.form_in bytes ≡ Some program
     → KeepsAt bytes answers items last image → opening profile bytes program image ≡ opened (fresh_session bytes 0 last.state)
 keeps-opens bytes program answers items last image form at =
-    ap (opening_held profile bytes program) at.1 ∙ log-opens bytes program answers items last at.0 form at.2
+    ap (opening_held profile bytes program) at.1 ∙ ap (opening_counted profile bytes program at.0) (counts-right at.0 at.2.adoptions)
+    ∙ log-opens bytes program answers items last at.0 form at.2
 
 -- the answers of a base are short
 short-in : (bytes : List ℕ) (o : Option (List Answer)) (answers : List Answer) → AnswersWithin o → o ≡ Some answers → list_all is_short answers ≡ true
@@ -224,6 +229,11 @@ module _ {D : Type 0} (moment : D → ℕ) (left_since : D → ℕ → Image →
 pub rest-keeps : {D : Type 0} (seen : D → Image) (may_leave : D → Image → Type 0) (bytes : List ℕ) (answers : List Answer) (items : List Item) (last : history.Session) (journal : Journal) (log : Log) (disk : D)
     → IsAtRest seen may_leave journal log disk → LogKeeps bytes answers items last log → LeavesAll (may_leave disk) (Keeps bytes answers items)
 rest-keeps seen may_leave bytes answers items last journal log disk rest keeps image left = (last, (log, ap held (rest.settled image left) ∙ rest.holds, keeps))
+
+pub rests-keep : {D : Type 0} (seen : D → Image) (may_leave : D → Image → Type 0) (bytes : List ℕ) (answers : List Answer) (items : List Item) (last : history.Session) (journal : Option Journal) (log : Log) (disk : D)
+    → RestsAs seen may_leave journal log disk → LogKeeps bytes answers items last log → LeavesAll (may_leave disk) (Keeps bytes answers items)
+rests-keep seen may_leave bytes answers items last None log disk rest keeps = absurd rest
+rests-keep seen may_leave bytes answers items last (Some journal) log disk rest keeps = rest-keeps seen may_leave bytes answers items last journal log disk rest keeps
 
 -- one of two journals keeps one of two lists
 pub either-keeps : (bytes : List ℕ) (answers : List Answer) (items others : List Item) (s t : history.Session) (before after : Log) → LogKeeps bytes answers items s before → LogKeeps bytes answers others t after

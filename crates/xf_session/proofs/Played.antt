@@ -28,8 +28,8 @@ use Rattle.xf_def_form.specs.Formed.{profile}
 use Rattle.xf_def_sessions.specs.Sessions.{fresh_session}
 use Rattle.xf_def_sessions.specs.Images.{item_of}
 use Rattle.xf_def_sessions.specs.Opening.{Opened, damaged, at_cut, state_after, then_entries, replayed, first_gate, base_offset}
-use Rattle.xf_session.specs.declared.fault.EventFault.{EventFault}
-use Rattle.xf_session.specs.declared.fault.EventFault.TheVariants as processor_fault
+use Rattle.xf_actions.specs.declared.fault.EventFault.{EventFault}
+use Rattle.xf_actions.specs.declared.fault.EventFault.TheVariants as processor_fault
 use Rattle.xf_session.specs.Processing.{IsAccepted, IsPosted, IsRefusedAfter, IsStarted, started}
 use Rattle.xf_session.proofs.Offsets.{taken-cons}
 use Rattle.xf_session.specs.Opening.{opening_from}

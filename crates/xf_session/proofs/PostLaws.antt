@@ -1,8 +1,10 @@
 -- What an event makes of a session.
-use Rattle.std.proofs.Common.{ℕ, ◌≡◌, ◌<◌, length, arith, inl, Bool, true, false, ◌&&◌, List, [], ◌∷◌, ◌++◌, Option, Some, None, Result, Ok, Err, refl, sym, ap, ◌∙◌, subst}
-use Rattle.std.specs.Prelude.{option_map, IsTrue, IsErr, IsErrAnd}
+use Rattle.std.proofs.Common.{ℕ, ◌≡◌, ◌≤◌, ◌<◌, length, arith, inl, Bool, true, false, ◌&&◌, List, [], ◌∷◌, ◌++◌, Option, Some, None, Result, Ok, Err, refl, sym, ap, ◌∙◌, subst}
+use Rattle.std.specs.Prelude.{nat_lt, option_map, IsSome, IsTrue, IsErr, IsErrAnd}
+use Rattle.std.proofs.lemmas.Bool.Decides.{nat_tests}
 use Rattle.std.proofs.lemmas.Slice.Eq.{bytes_eq-Decides}
 use Rattle.std.proofs.lemmas.List.{append-nil}
+use Rattle.xf_base.specs.Limits.{used_limit}
 use Rattle.xf_disk.specs.Image.{Image}
 use Rattle.xf_disk.specs.Crash.{LeavesOnly}
 use Rattle.xf_line.specs.declared.event.Event.{Event}
@@ -15,7 +17,7 @@ use Rattle.xf_store.specs.Called.{Called, Told, ListsAll, UsesAll}
 use Rattle.xf_journal.specs.declared.journal.Journal.{Journal}
 use Rattle.xf_journal.specs.Entry.{written_bytes}
 use Rattle.xf_journal.specs.Held.{Log}
-use Rattle.xf_journal.specs.Scanned.{IsAtRest, HoldsEither, with_accepted}
+use Rattle.xf_journal.specs.Scanned.{HoldsEither, with_accepted}
 use Rattle.xf_def_machine.specs.State.{State}
 use Rattle.xf_def_machine.specs.Replies.{answers_in, ok_text}
 use Rattle.xf_def_machine.specs.Run.{same_answer, if_exact}
@@ -25,18 +27,18 @@ use Rattle.xf_def_sessions.specs.Sessions as history
 use Rattle.xf_def_sessions.specs.History.{after_event}
 use Rattle.xf_def_sessions.specs.Runs.{Item, line, after_line}
 use Rattle.xf_def_sessions.specs.Usual.{usual}
-use Rattle.xf_session.specs.declared.fault.EventFault.{EventFault}
-use Rattle.xf_session.specs.declared.fault.EventFault.TheVariants as processor_fault
+use Rattle.xf_actions.specs.declared.fault.EventFault.{EventFault}
+use Rattle.xf_actions.specs.declared.fault.EventFault.TheVariants as processor_fault
 use Rattle.xf_session.specs.declared.fault.PostFault.{PostFault}
 use Rattle.xf_session.specs.declared.fault.PostFault.TheVariants as session_fault
 use Rattle.xf_session.specs.declared.session.Session.{Session}
 use Rattle.xf_session.specs.Faults.{of_event}
 use Rattle.xf_session.specs.Processing.{IsAccepted, IsPosted, Posts}
 use Rattle.xf_session.specs.Replaying.{same_answers}
-use Rattle.xf_session.specs.Keeping.{IsAtDisk, LogKeeps, IsSession, KeepsOne}
-use Rattle.xf_session.specs.Posting.{Stays, used_limit, IsTried, IsUnchanged, IsAnswered, IsKept, After, GoesOn, PostsIn}
+use Rattle.xf_session.specs.Keeping.{IsAtDisk, Rests, RestsAs, used_in, LogKeeps, IsSession, KeepsOne}
+use Rattle.xf_session.specs.Posting.{Stays, KeepsAs, GrowsBy, IsTried, IsUnchanged, IsAnswered, IsKept, After, GoesOn, PostsIn}
 use Rattle.xf_session.proofs.Played.{exact_accepted, where-true}
-use Rattle.xf_session.proofs.Keeps.{appended-keeps, either-keeps, rest-keeps, widened, stays}
+use Rattle.xf_session.proofs.Keeps.{appended-keeps, either-keeps, rests-keep, widened, stays}
 
 -- ---- answers
 
@@ -66,6 +68,13 @@ pub err-is : {T F : Type 0} (r : Result T F) (fault : F) → IsErr r → IsErrAn
 err-is (Ok x) fault h k = cc
 err-is (Err x) fault h k = ap Err k
 
+-- whether there is room
+pub full-is : (used : ℕ) (b : Bool) → b ≡ nat_lt used_limit used → b ≡ true → used_limit < used
+full-is used b e t = let over : nat_lt used_limit used ≡ true = sym e ∙ t in grind (arith, nat_tests, over)
+
+pub room-is : (used : ℕ) (b : Bool) → b ≡ nat_lt used_limit used → b ≡ false → used ≤ used_limit
+room-is used b e f = let over : nat_lt used_limit used ≡ false = sym e ∙ f in grind (arith, nat_tests, over)
+
 -- ---- no call of the store
 
 lists-none : (calls : Option (List StoreCall)) → ListsAll calls calls []
@@ -91,7 +100,7 @@ module _ {P D : Type 0} (state : P → State) (kept_by : P → Option State) (ca
       → LeavesOnly moment left_since disk disk (KeepsOne bytes answers items others)
   still bytes answers items others s disk h =
       stays moment left_since may_leave only_now disk (KeepsOne bytes answers items others)
-      (λ image left. inl (rest-keeps seen may_leave bytes answers items h.0 s.journal h.1.log disk h.1.rest h.1.keeps image left))
+      (λ image left. inl (rests-keep seen may_leave bytes answers items h.0 s.journal h.1.log disk h.1.rest h.1.keeps image left))
 
   -- another that is in the same state, with the same journal
   same-session : (bytes : List ℕ) (answers : List Answer) (items : List Item) (s t : Session P) (disk : D) → IsUnchanged state s t → Is bytes answers items s disk → Is bytes answers items t disk
@@ -99,7 +108,7 @@ module _ {P D : Type 0} (state : P → State) (kept_by : P → Option State) (ca
     h.0,
     record {
       log = h.1.log;
-      rest = subst (λ (j : Journal). IsAtRest seen may_leave j h.1.log disk) (sym same.journal) h.1.rest;
+      rest = subst (λ (j : Option Journal). RestsAs seen may_leave j h.1.log disk) (sym same.journal) h.1.rest;
       keeps = h.1.keeps;
       same = same.same ∙ h.1.same;
       whole = same.whole ∙ h.1.whole;
@@ -124,6 +133,14 @@ module _ {P D : Type 0} (state : P → State) (kept_by : P → Option State) (ca
   itself : (s : Session P) → IsUnchanged state s s
   itself s = record { same = refl; journal = refl; whole = refl }
 
+  -- no call of the disk was made
+  keeps-still : (fault : PostFault) (journal : Option Journal) (disk : D) → (fault ≡ session_fault.DiskFault → ⊥) → KeepsAs journal (Err fault) journal disk disk
+  keeps-still fault None disk other = (refl, refl, λ e. other (one-fault fault session_fault.DiskFault e))
+    where
+      one-fault : (a b : PostFault) → ◌≡◌ {A = Result Unit PostFault} (Err a) (Err b) → a ≡ b
+      one-fault a b e = cc
+  keeps-still fault (Some journal) disk other = refl
+
   -- an earlier call failed
   pub broken : (s : Session P) (text : List ℕ) (event : Event) (told : Told) (written : List ℕ) (given : List Answer → Outcome) (disk : D) → s.is_broken ≡ true
       → PostsIn state tells seen may_leave moment left_since s text event (Err session_fault.Broken) s told told written written given disk disk
@@ -133,12 +150,13 @@ module _ {P D : Type 0} (state : P → State) (kept_by : P → Option State) (ca
     own = tt;
     is = λ answers covers. (h, record { same = refl; calls = refl });
     still = refl;
+    keeps = keeps-still session_fault.Broken s.journal disk (λ e. cc);
     grows = λ is_told. tt;
     goes = λ is_told. unchanged-goes session_fault.Broken s s text event [] disk (λ e. cc) (itself s);
   }
 
   -- the slot has no room for it
-  pub full : (s : Session P) (text : List ℕ) (event : Event) (told : Told) (written : List ℕ) (given : List Answer → Outcome) (disk : D) → s.is_broken ≡ false → used_limit < s.journal.used
+  pub full : (s : Session P) (text : List ℕ) (event : Event) (told : Told) (written : List ℕ) (given : List Answer → Outcome) (disk : D) → s.is_broken ≡ false → used_limit < used_in s.journal
       → PostsIn state tells seen may_leave moment left_since s text event (Err session_fault.NotBuilt) s told told written written given disk disk
   full s text event told written given disk whole much = record {
     made = [];
@@ -146,6 +164,7 @@ module _ {P D : Type 0} (state : P → State) (kept_by : P → Option State) (ca
     own = tt;
     is = λ answers covers. (whole, much, record { same = refl; calls = refl });
     still = refl;
+    keeps = keeps-still session_fault.NotBuilt s.journal disk (λ e. cc);
     grows = λ is_told. tt;
     goes = λ is_told. unchanged-goes session_fault.NotBuilt s s text event [] disk (λ e. cc) (itself s);
   }
@@ -177,6 +196,7 @@ module _ {P D : Type 0} (state : P → State) (kept_by : P → Option State) (ca
     own = h.own;
     is = λ answers covers. not-taken-is fault s p h.made old new (step profile (state s.processor) event answers) tried (h.is answers covers);
     still = not-taken-still fault disk;
+    keeps = keeps-still (of_event fault) s.journal disk (not-disk fault);
     grows = λ is_told. tt;
     goes = λ is_told. unchanged-goes (of_event fault) s (record s { processor = p }) text event (answers_in h.made) disk (not-disk fault)
         (record {
@@ -213,7 +233,7 @@ module _ {P D : Type 0} (state : P → State) (kept_by : P → Option State) (ca
 
   -- what the keeping of the event leaves at each moment
   abbrev Appends : Session P → List ℕ → List Answer → D → D → Type 0
-  Appends s text given old new = (log : Log) → IsAtRest seen may_leave s.journal log old → LeavesOnly moment left_since old new (HoldsEither log (with_accepted log text given))
+  Appends s text given old new = (log : Log) → RestsAs seen may_leave s.journal log old → LeavesOnly moment left_since old new (HoldsEither log (with_accepted log text given))
 
   moments : (bytes : List ℕ) (answers : List Answer) (items : List Item) (text : List ℕ) (event : Event) (given : List Answer) (s : Session P) (t : State) (old new : D) (h : Is bytes answers items s old)
       → Taken bytes answers items text event given h.1.log t → Appends s text given old new → LeavesOnly moment left_since old new (KeepsOne bytes answers items (items ++ line event given ∷ []))
@@ -221,14 +241,24 @@ module _ {P D : Type 0} (state : P → State) (kept_by : P → Option State) (ca
       widened moment left_since old new (HoldsEither h.1.log (with_accepted h.1.log text given)) (KeepsOne bytes answers items (items ++ line event given ∷ [])) (appends h.1.log h.1.rest)
       (either-keeps bytes answers items (items ++ line event given ∷ []) h.0 more.next h.1.log (with_accepted h.1.log text given) h.1.keeps more.keeps)
 
+  -- the slot takes the entry
+  grown : (j k : Option Journal) (text : List ℕ) (given : List Answer) (old new : D) → Rests seen may_leave j old
+      → ((log : Log) → RestsAs seen may_leave j log old → RestsAs seen may_leave k (with_accepted log text given) new) → GrowsBy j k (length (written_bytes text given))
+  grown None k text given old new was now = tt
+  grown (Some journal) None text given old new was now = absurd (now was.0 was.1)
+  grown (Some journal) (Some next) text given old new was now =
+      let before_used = ap (λ (j : Journal). j.used) was.1.in_hand in
+      let after_used = ap (λ (j : Journal). j.used) (now was.0 was.1).in_hand in
+      omega (arith, before_used, after_used)
+
   -- it is kept
   pub kept : (s mid : Session P) (p final : P) (text : List ℕ) (event : Event) (first last : Told) (old_text new_text : List ℕ) (old new : D) → IsTried s
       → (h : Posts (Ok tt) (state s.processor) (state p) (calls_of p) first last old_text new_text (step profile (state s.processor) event))
       → (IsTrue (tells old) → Appends (record s { processor = p }) text (answers_in (calls_of p)) old new)
-      → (IsTrue (tells old) → (log : Log) → IsAtRest seen may_leave s.journal log old → IsAtRest seen may_leave mid.journal (with_accepted log text (answers_in (calls_of p))) new)
-      → IsKept (record s { processor = p }) (Ok tt) mid old new → state final ≡ state mid.processor → (IsTrue (tells old) → IsAtDisk seen may_leave s old)
+      → (IsTrue (tells old) → (log : Log) → RestsAs seen may_leave s.journal log old → RestsAs seen may_leave mid.journal (with_accepted log text (answers_in (calls_of p))) new)
+      → IsKept (record s { processor = p }) (Ok tt) mid old new → KeepsAs s.journal (Ok tt) mid.journal old new → state final ≡ state mid.processor → (IsTrue (tells old) → IsAtDisk seen may_leave s old)
       → PostsIn state tells seen may_leave moment left_since s text event (Ok tt) (record mid { processor = final }) first last old_text new_text (step profile (state s.processor) event) old new
-  kept s mid p final text event first last old_text new_text old new tried h appends done is_kept same at_disk = record {
+  kept s mid p final text event first last old_text new_text old new tried h appends done is_kept keeps same at_disk = record {
     made = h.made;
     called = h.called;
     own = h.own;
@@ -243,13 +273,10 @@ module _ {P D : Type 0} (state : P → State) (kept_by : P → Option State) (ca
           ),
         );
     still = tt;
+    keeps = keeps;
     grows = λ is_told.
-        let was = at_disk is_told tried.whole in
-        let now = done is_told was.0 was.1 in
-        let before_used = ap (λ (j : Journal). j.used) was.1.in_hand in
-        let after_used = ap (λ (j : Journal). j.used) now.in_hand in
-        let size = ap (λ g. length (written_bytes text g)) given in
-        omega (arith, before_used, after_used, size);
+        subst (λ g. GrowsBy s.journal mid.journal (length (written_bytes text g))) given
+        (grown s.journal mid.journal text (answers_in (calls_of p)) old new (at_disk is_told tried.whole) (done is_told));
     goes = λ is_told. λ bytes answers items is i.
         let posted = h.is (answers_in h.made) h.own in
         let more = taken bytes answers items text event h.made s (state p) posted.0 old i is posted.1 in
@@ -259,7 +286,7 @@ module _ {P D : Type 0} (state : P → State) (kept_by : P → Option State) (ca
             more.next,
             record {
               log = with_accepted i.1.log text (answers_in h.made);
-              rest = subst (λ g. IsAtRest seen may_leave mid.journal (with_accepted i.1.log text g) new) given (done is_told i.1.log i.1.rest);
+              rest = subst (λ g. RestsAs seen may_leave mid.journal (with_accepted i.1.log text g) new) given (done is_told i.1.log i.1.rest);
               keeps = more.keeps;
               same = state_is ∙ more.same;
               whole = whole;
@@ -320,9 +347,9 @@ module _ {P D : Type 0} (state : P → State) (kept_by : P → Option State) (ca
       → (h : Posts (Ok tt) (state s.processor) (state p) (calls_of p) first last old_text new_text (step profile (state s.processor) event))
       → kept_by p ≡ Some (state s.processor)
       → (IsTrue (tells old) → Appends (record s { processor = p }) text (answers_in (calls_of p)) old new)
-      → IsKept (record s { processor = p }) (Err fault) mid old new → kept_by mid.processor ≡ Some (state final)
+      → IsKept (record s { processor = p }) (Err fault) mid old new → KeepsAs s.journal (Err fault) mid.journal old new → kept_by mid.processor ≡ Some (state final)
       → PostsIn state tells seen may_leave moment left_since s text event (Err fault) (record mid { processor = final }) first last old_text new_text (step profile (state s.processor) event) old new
-  taken-back fault s mid p final text event first last old_text new_text old new tried h pending appends is_kept back = record {
+  taken-back fault s mid p final text event first last old_text new_text old new tried h pending appends is_kept keeps back = record {
     made = h.made;
     called = h.called;
     own = h.own;
@@ -330,6 +357,7 @@ module _ {P D : Type 0} (state : P → State) (kept_by : P → Option State) (ca
         let posted = h.is answers covers in
         back-is fault s mid p final h.made old_text new_text (step profile (state s.processor) event answers) old new tried (state p) posted.0 posted.1 is_kept same;
     still = back-still fault (record s { processor = p }) mid old new is_kept;
+    keeps = keeps;
     grows = λ is_told. tt;
     goes = λ is_told. λ bytes answers items is i.
         let posted = h.is (answers_in h.made) h.own in
@@ -359,4 +387,15 @@ module _ {P D : Type 0} (state : P → State) (kept_by : P → Option State) (ca
   rest-of session_fault.Broken s mid p final old new k h = absurd k
   rest-of session_fault.Memory s mid p final old new k h = λ whole.
       let was = h (sym (ap (λ (x : Session P). x.is_broken) k.0) ∙ whole) in
-      (was.0, subst (λ (d : D). IsAtRest seen may_leave mid.journal was.0 d) (sym k.1) (subst (λ (j : Journal). IsAtRest seen may_leave j was.0 old) (sym (ap (λ (x : Session P). x.journal) k.0)) was.1))
+      subst (λ (d : D). Rests seen may_leave mid.journal d) (sym k.1) (subst (λ (j : Option Journal). Rests seen may_leave j old) (sym (ap (λ (x : Session P). x.journal) k.0)) was)
+
+  rests-on : (j k : Option Journal) (text : List ℕ) (given : List Answer) (old new : D) → Rests seen may_leave j old
+      → ((log : Log) → RestsAs seen may_leave j log old → RestsAs seen may_leave k (with_accepted log text given) new) → KeepsAs j (Ok tt) k old new → Rests seen may_leave k new
+  rests-on None k text given old new was now keeps = subst (λ (j : Option Journal). Rests seen may_leave j new) (sym keeps.0) tt
+  rests-on (Some journal) None text given old new was now keeps = tt
+  rests-on (Some journal) (Some next) text given old new was now keeps = (with_accepted was.0 text given, now was.0 was.1)
+
+  pub rest-kept : (s mid : Session P) (final : P) (text : List ℕ) (given : List Answer) (old new : D) → IsTried s → IsAtDisk seen may_leave s old
+      → ((log : Log) → RestsAs seen may_leave s.journal log old → RestsAs seen may_leave mid.journal (with_accepted log text given) new) → KeepsAs s.journal (Ok tt) mid.journal old new
+      → IsAtDisk seen may_leave (record mid { processor = final }) new
+  rest-kept s mid final text given old new tried h now keeps = λ whole. rests-on s.journal mid.journal text given old new (h tried.whole) now keeps

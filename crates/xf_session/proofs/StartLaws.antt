@@ -1,5 +1,5 @@
 -- How a session begins.
-use Rattle.std.proofs.Common.{ℕ, ◌≡◌, inl, inr, Bool, true, false, List, [], Option, Some, Result, Ok, Err, sym, ap, ◌∙◌, subst, le_refl}
+use Rattle.std.proofs.Common.{ℕ, ◌≡◌, inl, inr, Bool, true, false, List, [], Option, Some, None, Result, Ok, Err, sym, ap, ◌∙◌, subst, le_refl}
 use Rattle.std.specs.Prelude.{IsTrue, IfErr, IfOk}
 use Rattle.xf_disk.specs.Image.{Image}
 use Rattle.xf_disk.specs.declared.slot.Slot.TheVariants.{A}
@@ -22,16 +22,16 @@ use Rattle.xf_def_machine.specs.Step.{Outcome}
 use Rattle.xf_def_form.specs.Formed.{profile}
 use Rattle.xf_def_sessions.specs.Sessions.{fresh_session}
 use Rattle.xf_def_sessions.specs.Images.{StandsForNone}
-use Rattle.xf_session.specs.declared.fault.BeginFault.{BeginFault}
-use Rattle.xf_session.specs.declared.fault.BeginFault.TheVariants as begin
-use Rattle.xf_session.specs.declared.fault.EventFault.{EventFault}
-use Rattle.xf_session.specs.declared.fault.EventFault.TheVariants as event
+use Rattle.xf_session.specs.declared.fault.OpenFault.{OpenFault}
+use Rattle.xf_session.specs.declared.fault.OpenFault.TheVariants as begin
+use Rattle.xf_actions.specs.declared.fault.EventFault.{EventFault}
+use Rattle.xf_actions.specs.declared.fault.EventFault.TheVariants as event
 use Rattle.xf_session.specs.declared.session.Session.{Session}
-use Rattle.xf_session.specs.Faults.{begin_of_event}
-use Rattle.xf_session.specs.Processing.{IsAccepted, IsStarted, Starts, started}
-use Rattle.xf_session.specs.Replaying.{start_image}
-use Rattle.xf_session.specs.Keeping.{LogKeeps, KeepsNoItem, IsSession, IsAtDisk}
-use Rattle.xf_session.specs.Beginning.{IsBuilt, IsOfKeeping, HasStarted, HoldsOldOrFirst, IsFirst, StartsIn, Spares, HasBeginCause}
+use Rattle.xf_session.specs.Faults.{of_start}
+use Rattle.xf_session.specs.Processing.{IsAccepted, IsStarted, Starts, StartsAlone, started}
+use Rattle.xf_session.specs.Replaying.{HasOpenCause, start_image}
+use Rattle.xf_session.specs.Keeping.{LogKeeps, KeepsNoItem, IsSession, IsAtDisk, Rests, RestsAs}
+use Rattle.xf_session.specs.Beginning.{IsBuilt, IsOfKeeping, HasStarted, HoldsOldOrFirst, IsFirst, IsFirstIn, StartsIn, Spares}
 use Rattle.xf_session.proofs.Played.{start_is, exact_accepted, where-true}
 use Rattle.xf_session.proofs.PostLaws.{all-same}
 use Rattle.xf_session.proofs.Keeps.{begun-keeps, ready, widened, stays}
@@ -67,11 +67,11 @@ module _ {P D : Type 0} (state : P → State) (kept_by : P → Option State) (ca
     (built : IsBuilt bytes program first) where
   -- it is refused
   refused-is : (fault : EventFault) (made : List StoreCall) (old new : List ℕ) (given other : Outcome) → given ≡ other → IsStarted state (Err fault) made old new other
-      → HasStarted state (Err (begin_of_event fault)) made old new given
+      → HasStarted state (Err (of_start fault)) made old new given
   refused-is (event.Refused refusal) made old new given other e h = subst (λ o. HasStarted state (Err (begin.Refused refusal)) made old new o) (sym e) h
   refused-is event.Memory made old new given other e h = tt
 
-  pub not-started : (result : Result (Session P) BeginFault) (fault : EventFault) (told last : Told) (old_text new_text : List ℕ) (disk : D) → result ≡ Err (begin_of_event fault)
+  pub not-started : (result : Result (Session P) OpenFault) (fault : EventFault) (told last : Told) (old_text new_text : List ℕ) (disk : D) → result ≡ Err (of_start fault)
       → Starts state kept_by calls_of (Err fault) first told last old_text new_text
       → StartsIn state tells seen may_leave moment left_since bytes program result told last old_text new_text disk disk
   not-started result fault told last old_text new_text disk e h =
@@ -87,7 +87,7 @@ module _ {P D : Type 0} (state : P → State) (kept_by : P → Option State) (ca
       })
 
   -- it is accepted
-  accepted-is : (result : Result (Session P) BeginFault) (p : P) (made : List StoreCall) (old new : List ℕ) (given other : Outcome) → given ≡ other
+  accepted-is : (result : Result (Session P) OpenFault) (p : P) (made : List StoreCall) (old new : List ℕ) (given other : Outcome) → given ≡ other
       → IfOk result (λ session. state session.processor ≡ state p) → IfErr result IsOfKeeping → IsStarted state (Ok p) made old new other → HasStarted state result made old new given
   accepted-is (Ok session) p made old new given other e same only h = (
     h.0,
@@ -97,6 +97,7 @@ module _ {P D : Type 0} (state : P → State) (kept_by : P → Option State) (ca
   accepted-is (Err (begin.Refused refusal)) p made old new given other e same only h = absurd only
   accepted-is (Err (begin.OtherForm at)) p made old new given other e same only h = absurd only
   accepted-is (Err (begin.Damaged slot at)) p made old new given other e same only h = absurd only
+  accepted-is (Err begin.NoSession) p made old new given other e same only h = absurd only
   accepted-is (Err begin.DiskFault) p made old new given other e same only h = tt
   accepted-is (Err begin.Memory) p made old new given other e same only h = tt
 
@@ -108,31 +109,44 @@ module _ {P D : Type 0} (state : P → State) (kept_by : P → Option State) (ca
       (ap (if_exact (answers_in made)) (start_is program first (answers_in made) built.built) ∙ exact_accepted (answers_in made) (started first (answers_in made)) (state p) made h.0 h.1
       ∙ where-true (answers_in made) (answers_in made) (state p) (all-same (answers_in made)))
 
-  begun-session : (result : Result (Session P) BeginFault) (p : P) (made : List StoreCall) (old_text new_text : List ℕ) (new : D) → calls_of p ≡ made
+  -- the journal in hand, and what it began with
+  first-in : (journal : Option Journal) (answers : List Answer) (new : D) → IsFirstIn seen may_leave bytes answers journal new
+      → RestsAs seen may_leave journal (new_log A 1 (start_image bytes answers)) new × IsTrue (is_within [] answers)
+  first-in None answers new is = absurd is
+  first-in (Some journal) answers new is = (is.rest, is.within)
+
+  begun-session : (result : Result (Session P) OpenFault) (p : P) (made : List StoreCall) (old_text new_text : List ℕ) (new : D) → calls_of p ≡ made
       → IsStarted state (Ok p) made old_text new_text (started first (answers_in made)) → IfOk result (λ session. state session.processor ≡ state p) → IfOk result (λ session. session.is_broken ≡ false)
-      → IfOk result (λ session. IsFirst seen may_leave bytes (answers_in (calls_of p)) session.journal new)
+      → IfOk result (λ session. IsFirstIn seen may_leave bytes (answers_in (calls_of p)) session.journal new)
       → IfOk result (λ session. IsSession state seen may_leave bytes (answers_in made) [] session new)
-  begun-session (Ok session) p made old_text new_text new calls h same whole is = (
-    fresh_session bytes 0 (state p),
-    record {
-      log = new_log A 1 (start_image bytes (answers_in made));
-      rest = subst (λ (c : List StoreCall). IsAtRest seen may_leave session.journal (new_log A 1 (start_image bytes (answers_in c))) new) calls is.rest;
-      keeps = log-keeps p made old_text new_text calls h is.within;
-      same = same;
-      whole = whole;
-    },
-  )
+  begun-session (Ok session) p made old_text new_text new calls h same whole is =
+      let first = first-in session.journal (answers_in (calls_of p)) new is in (
+        fresh_session bytes 0 (state p),
+        record {
+          log = new_log A 1 (start_image bytes (answers_in made));
+          rest = subst (λ (c : List StoreCall). RestsAs seen may_leave session.journal (new_log A 1 (start_image bytes (answers_in c))) new) calls first.0;
+          keeps = log-keeps p made old_text new_text calls h first.1;
+          same = same;
+          whole = whole;
+        },
+      )
   begun-session (Err fault) p made old_text new_text new calls h same whole is = tt
 
-  in-hand : (result : Result (Session P) BeginFault) (p : P) (made : List StoreCall) (new : D) → calls_of p ≡ made → IfOk result (λ session. IsFirst seen may_leave bytes (answers_in (calls_of p)) session.journal new)
-      → IfOk result (λ session. session.journal ≡ journal_of (new_log A 1 (start_image bytes (answers_in made))))
-  in-hand (Ok session) p made new calls is = is.rest.in_hand ∙ ap (λ (c : List StoreCall). journal_of (new_log A 1 (start_image bytes (answers_in c)))) calls
+  hand-is : (journal : Option Journal) (answers : List Answer) (new : D) → IsFirstIn seen may_leave bytes answers journal new
+      → journal ≡ Some (journal_of (new_log A 1 (start_image bytes answers)))
+  hand-is None answers new is = absurd is
+  hand-is (Some journal) answers new is = ap Some is.rest.in_hand
+
+  in-hand : (result : Result (Session P) OpenFault) (p : P) (made : List StoreCall) (new : D) → calls_of p ≡ made → IfOk result (λ session. IsFirstIn seen may_leave bytes (answers_in (calls_of p)) session.journal new)
+      → IfOk result (λ session. session.journal ≡ Some (journal_of (new_log A 1 (start_image bytes (answers_in made)))))
+  in-hand (Ok session) p made new calls is =
+      hand-is session.journal (answers_in (calls_of p)) new is ∙ ap (λ (c : List StoreCall). Some (journal_of (new_log A 1 (start_image bytes (answers_in c))))) calls
   in-hand (Err fault) p made new calls is = tt
 
-  pub has-started : (result : Result (Session P) BeginFault) (p : P) (told last : Told) (old_text new_text : List ℕ) (old new : D) → Starts state kept_by calls_of (Ok p) first told last old_text new_text
+  pub has-started : (result : Result (Session P) OpenFault) (p : P) (told last : Told) (old_text new_text : List ℕ) (old new : D) → Starts state kept_by calls_of (Ok p) first told last old_text new_text
       → IfOk result (λ session. state session.processor ≡ state p) → IfErr result IsOfKeeping → IfOk result (λ session. session.is_broken ≡ false)
       → (IsTrue (tells old) → IsReady seen may_leave A 1 0 old → LeavesOnly moment left_since old new (HoldsOldOrFirst (seen old) bytes (answers_in (calls_of p))))
-      → (IsTrue (tells old) → IsReady seen may_leave A 1 0 old → IfOk result (λ session. IsFirst seen may_leave bytes (answers_in (calls_of p)) session.journal new))
+      → (IsTrue (tells old) → IsReady seen may_leave A 1 0 old → IfOk result (λ session. IsFirstIn seen may_leave bytes (answers_in (calls_of p)) session.journal new))
       → StartsIn state tells seen may_leave moment left_since bytes program result told last old_text new_text old new
   has-started result p told last old_text new_text old new h same only whole leaves rests = record {
     made = h.made;
@@ -159,32 +173,63 @@ module _ {P D : Type 0} (state : P → State) (kept_by : P → Option State) (ca
         ),
       )
 
+-- ---- a session that nothing keeps
+
+alone-err : {P : Type 0} (state : P → State) (fault : EventFault) (made : List StoreCall) (old new : List ℕ) (given : Outcome) → IsStarted state (Err fault) made old new given
+    → IsStarted (λ (session : Session P). state session.processor) (Err fault) made old new given
+alone-err state (event.Refused refusal) made old new given h = h
+alone-err state event.Memory made old new given h = tt
+
+pub alone-refused : {P : Type 0} (state : P → State) (kept_by : P → Option State) (calls_of : P → List StoreCall) (result : Result (Session P) EventFault) (fault : EventFault) (first : State) (told last : Told)
+    (old new : List ℕ) → result ≡ Err fault → Starts state kept_by calls_of (Err fault) first told last old new
+    → StartsAlone (λ (session : Session P). state session.processor) result first told last old new
+alone-refused {P} state kept_by calls_of result fault first told last old new e h =
+    subst (λ r. StartsAlone (λ (session : Session P). state session.processor) r first told last old new) (sym e)
+    (record { made = h.made; called = h.called; own = h.own; is = λ answers covers. alone-err state fault h.made old new (started first answers) (h.is answers covers) })
+
+pub alone-started : {P : Type 0} (state : P → State) (kept_by : P → Option State) (calls_of : P → List StoreCall) (session : Session P) (p final : P) (first : State) (told last : Told) (old new : List ℕ)
+    → Starts state kept_by calls_of (Ok p) first told last old new → state final ≡ state p → session.processor ≡ final
+    → StartsAlone (λ (session : Session P). state session.processor) (Ok session) first told last old new
+alone-started state kept_by calls_of session p final first told last old new h same e = record {
+  made = h.made;
+  called = h.called;
+  own = h.own;
+  is = λ answers covers.
+      let is = h.is answers covers in
+      (is.0, subst (λ x. IsAccepted (started first answers) x h.made is.0) (sym (ap state e ∙ same)) is.1, is.2);
+}
+
 -- ---- where it stands
 
-pub first-at-disk : {P D : Type 0} (seen : D → Image) (may_leave : D → Image → Type 0) (form : List ℕ) (answers : List Answer) (result : Result (Session P) BeginFault) (old new : D)
-    → (IsReady seen may_leave A 1 0 old → IfOk result (λ session. IsFirst seen may_leave form answers session.journal new)) → StandsForNone (seen old) → IsSettled (seen old) (may_leave old)
+first-rests-in : {D : Type 0} (seen : D → Image) (may_leave : D → Image → Type 0) (form : List ℕ) (answers : List Answer) (journal : Option Journal) (new : D)
+    → IsFirstIn seen may_leave form answers journal new → Rests seen may_leave journal new
+first-rests-in seen may_leave form answers None new is = absurd is
+first-rests-in seen may_leave form answers (Some journal) new is = (new_log A 1 (start_image form answers), is.rest)
+
+pub first-at-disk : {P D : Type 0} (seen : D → Image) (may_leave : D → Image → Type 0) (form : List ℕ) (answers : List Answer) (result : Result (Session P) OpenFault) (old new : D)
+    → (IsReady seen may_leave A 1 0 old → IfOk result (λ session. IsFirstIn seen may_leave form answers session.journal new)) → StandsForNone (seen old) → IsSettled (seen old) (may_leave old)
     → IfOk result (λ session. IsAtDisk seen may_leave session new)
-first-at-disk seen may_leave form answers (Ok session) old new is none settled = λ whole. (new_log A 1 (start_image form answers), (is (ready seen may_leave old none settled)).rest)
+first-at-disk seen may_leave form answers (Ok session) old new is none settled = λ whole. first-rests-in seen may_leave form answers session.journal new (is (ready seen may_leave old none settled))
 first-at-disk seen may_leave form answers (Err fault) old new is none settled = tt
 
 -- ---- a start that is refused
 
-one-fault : {T : Type 0} (a b : BeginFault) → ◌≡◌ {A = Result T BeginFault} (Err a) (Err b) → a ≡ b
+one-fault : {T : Type 0} (a b : OpenFault) → ◌≡◌ {A = Result T OpenFault} (Err a) (Err b) → a ≡ b
 one-fault a b e = cc
 
-pub event-cause : {T : Type 0} (n : ℕ) (fault : EventFault) (r : BeginFault) → r ≡ begin_of_event fault → HasBeginCause {T = T} n n (Err r)
+pub event-cause : {T : Type 0} (n : ℕ) (fault : EventFault) (r : OpenFault) → r ≡ of_start fault → HasOpenCause {T = T} n n (Err r)
 event-cause n (event.Refused refusal) r e = record { later = le_refl n; failed = λ f. absurd (not-disk refusal r e (one-fault r begin.DiskFault f)) }
   where
-    not-disk : (refusal : Refusal) (r : BeginFault) → r ≡ begin.Refused refusal → r ≡ begin.DiskFault → ⊥
+    not-disk : (refusal : Refusal) (r : OpenFault) → r ≡ begin.Refused refusal → r ≡ begin.DiskFault → ⊥
     not-disk refusal r e f = cc
 event-cause n event.Memory r e = record { later = le_refl n; failed = λ f. absurd (not-memory r e (one-fault r begin.DiskFault f)) }
   where
-    not-memory : (r : BeginFault) → r ≡ begin.Memory → r ≡ begin.DiskFault → ⊥
+    not-memory : (r : OpenFault) → r ≡ begin.Memory → r ≡ begin.DiskFault → ⊥
     not-memory r e f = cc
 
-pub event-spares : (T : Type 0) (fault : EventFault) (r : BeginFault) (fact : Type 0) → r ≡ begin_of_event fault → fact → Spares {P = T} (Err r) fact
-event-spares T fault r fact e h = subst (λ (x : BeginFault). Spares {P = T} (Err x) fact) (sym e) (by fault h)
+pub event-spares : (T : Type 0) (fault : EventFault) (r : OpenFault) (fact : Type 0) → r ≡ of_start fault → fact → Spares {P = T} (Err r) fact
+event-spares T fault r fact e h = subst (λ (x : OpenFault). Spares {P = T} (Err x) fact) (sym e) (by fault h)
   where
-    by : (fault : EventFault) → fact → Spares {P = T} (Err (begin_of_event fault)) fact
+    by : (fault : EventFault) → fact → Spares {P = T} (Err (of_start fault)) fact
     by (event.Refused refusal) h = h
     by event.Memory h = h

@@ -1,6 +1,5 @@
 -- How a session is opened or begun.
-use Rattle.std.specs.Prelude.{◌≡◌, ◌≤◌, ◌⊎◌, ℕ, Bool, IsTrue, IfOk, List, [], ◌++◌, Some, Result, Ok, Err}
-use Rattle.xf_base.specs.Faults.{Rose}
+use Rattle.std.specs.Prelude.{◌≡◌, ◌⊎◌, ℕ, Bool, IsTrue, IfOk, List, [], ◌++◌, Option, Some, None, Result, Ok, Err}
 use Rattle.xf_disk.specs.Image.{Image}
 use Rattle.xf_disk.specs.Crash.{IsSettled, LeavesAll, LeavesOnly}
 use Rattle.xf_store.specs.declared.answers.Answer.{Answer}
@@ -24,10 +23,8 @@ use Rattle.xf_def_sessions.specs.Runs.{Item}
 use Rattle.xf_def_sessions.specs.Images.{StandsForNone}
 use Rattle.xf_def_sessions.specs.Opening.{Opened, opened, no_session, other_form, damaged}
 use Rattle.xf_def_sessions.specs.Usual.{usual}
-use Rattle.xf_session.specs.declared.fault.BeginFault.{BeginFault}
-use Rattle.xf_session.specs.declared.fault.BeginFault.TheVariants.{Refused, OtherForm, Damaged, DiskFault, Memory}
-use Rattle.xf_session.specs.declared.fault.ResumeFault.{ResumeFault}
-use Rattle.xf_session.specs.declared.fault.ResumeFault.TheVariants as resume
+use Rattle.xf_session.specs.declared.fault.OpenFault.{OpenFault}
+use Rattle.xf_session.specs.declared.fault.OpenFault.TheVariants.{Refused, OtherForm, Damaged, NoSession, DiskFault, Memory}
 use Rattle.xf_session.specs.declared.session.Session.{Session}
 use Rattle.xf_session.specs.Processing.{IsAccepted, IsRefusedAfter}
 use Rattle.xf_session.specs.Opening.{opening}
@@ -46,13 +43,14 @@ abbrev pub IsOpened : {P : Type 0} → (P → State) → Opened → Session P �
 IsOpened state found session = (s : history.Session) × (found ≡ opened s) × (state session.processor ≡ s.state)
 
 -- of an opening alone
-abbrev pub Resumes : {P : Type 0} → (P → State) → Opened → Result (Session P) ResumeFault → Type 0
+abbrev pub Resumes : {P : Type 0} → (P → State) → Opened → Result (Session P) OpenFault → Type 0
 Resumes state found (Ok session) = IsOpened state found session
-Resumes state found (Err (resume.OtherForm at)) = found ≡ other_form at
-Resumes state found (Err (resume.Damaged slot at)) = found ≡ damaged slot at
-Resumes state found (Err resume.NoSession) = found ≡ no_session
-Resumes state found (Err resume.DiskFault) = Unit {0}
-Resumes state found (Err resume.Memory) = Unit {0}
+Resumes state found (Err (Refused refusal)) = ⊥
+Resumes state found (Err (OtherForm at)) = found ≡ other_form at
+Resumes state found (Err (Damaged slot at)) = found ≡ damaged slot at
+Resumes state found (Err NoSession) = found ≡ no_session
+Resumes state found (Err DiskFault) = Unit {0}
+Resumes state found (Err Memory) = Unit {0}
 
 -- no call of the store was made, and no note written
 pub record IsSilent (made : List StoreCall) (old new : List ℕ) : Type 0 where
@@ -66,11 +64,12 @@ pub record IsNew {P : Type 0} (state : P → State) (found : Opened) (session : 
   pub is : IsAccepted given (state session.processor) made posted
   pub text : new ≡ old ++ note_lines posted.notes
 
-abbrev pub Begins : {P : Type 0} → (P → State) → Opened → Result (Session P) BeginFault → List StoreCall → List ℕ → List ℕ → Outcome → Type 0
+abbrev pub Begins : {P : Type 0} → (P → State) → Opened → Result (Session P) OpenFault → List StoreCall → List ℕ → List ℕ → Outcome → Type 0
 Begins state found (Ok session) made old new given = (IsOpened state found session × IsSilent made old new) ⊎ IsNew state found session made old new given
 Begins state found (Err (Refused refusal)) made old new given = (found ≡ no_session) × IsRefusedAfter refusal made given
 Begins state found (Err (OtherForm at)) made old new given = (found ≡ other_form at) × IsSilent made old new
 Begins state found (Err (Damaged slot at)) made old new given = (found ≡ damaged slot at) × IsSilent made old new
+Begins state found (Err NoSession) made old new given = ⊥
 Begins state found (Err DiskFault) made old new given = Unit {0}
 Begins state found (Err Memory) made old new given = Unit {0}
 
@@ -93,14 +92,15 @@ StartsOnce state seen may_leave moment left_since bytes result old new =
     × IfOk result (λ session. (answers : List Answer) × IsSession state seen may_leave bytes answers [] session new)
 
 -- the journal in hand is that of the slots, or the first one of a session that starts with these answers
-abbrev pub IsInHand : Image → List ℕ → List Answer → Opened → Journal → Log → Type 0
+abbrev pub IsInHand : Image → List ℕ → List Answer → Opened → Option Journal → Log → Type 0
 IsInHand image bytes answers found hand log =
-    (hand ≡ journal_of log) × (((s : history.Session) × (found ≡ opened s) × (held image ≡ Ok (Some log))) ⊎ ((found ≡ no_session) × (log ≡ new_log A 1 (start_image bytes answers))))
+    (hand ≡ Some (journal_of log)) × (((s : history.Session) × (found ≡ opened s) × (held image ≡ Ok (Some log))) ⊎ ((found ≡ no_session) × (log ≡ new_log A 1 (start_image bytes answers))))
 
 -- nothing is written but by a new session
-abbrev pub Spares : {P : Type 0} → Result P BeginFault → Type 0 → Type 0
+abbrev pub Spares : {P : Type 0} → Result P OpenFault → Type 0 → Type 0
 Spares (Ok session) fact = Unit {0}
 Spares (Err DiskFault) fact = Unit {0}
+Spares (Err NoSession) fact = fact
 Spares (Err (Refused refusal)) fact = fact
 Spares (Err (OtherForm at)) fact = fact
 Spares (Err (Damaged slot at)) fact = fact
@@ -110,7 +110,7 @@ Spares (Err Memory) fact = fact
 
 -- what opening gives says the answer
 pub record ResumesIn {P D : Type 0} (state : P → State) (tells : D → Bool) (seen : D → Image) (may_leave : D → Image → Type 0) (moment : D → ℕ) (left_since : D → ℕ → Image → Type 0)
-    (bytes : List ℕ) (program : Program) (result : Result (Session P) ResumeFault) (old new : D) : Type 0 where
+    (bytes : List ℕ) (program : Program) (result : Result (Session P) OpenFault) (old new : D) : Type 0 where
   pub found : Opened
   pub told : IsTrue (tells old) → found ≡ opening profile bytes program (seen old)
   pub is : Resumes state found result
@@ -119,7 +119,7 @@ pub record ResumesIn {P D : Type 0} (state : P → State) (tells : D → Bool) (
 
 -- these calls were made of the store; what opening gives says the answer, for all answers that give these calls what they got
 pub record BeginsIn {P D : Type 0} (state : P → State) (tells : D → Bool) (seen : D → Image) (may_leave : D → Image → Type 0) (moment : D → ℕ) (left_since : D → ℕ → Image → Type 0)
-    (bytes : List ℕ) (program : Program) (result : Result (Session P) BeginFault) (first last : Told) (old_text new_text : List ℕ) (old new : D) : Type 0 where
+    (bytes : List ℕ) (program : Program) (result : Result (Session P) OpenFault) (first last : Told) (old_text new_text : List ℕ) (old new : D) : Type 0 where
   pub made : List StoreCall
   pub called : Called first last [] made
   pub own : Covers (answers_in made) made
@@ -133,10 +133,11 @@ pub record BeginsIn {P D : Type 0} (state : P → State) (tells : D → Bool) (s
 -- ---- a start
 
 -- faults of the keeping alone
-abbrev pub IsOfKeeping : BeginFault → Type 0
+abbrev pub IsOfKeeping : OpenFault → Type 0
 IsOfKeeping (Refused refusal) = ⊥
 IsOfKeeping (OtherForm at) = ⊥
 IsOfKeeping (Damaged slot at) = ⊥
+IsOfKeeping NoSession = ⊥
 IsOfKeeping DiskFault = Unit {0}
 IsOfKeeping Memory = Unit {0}
 
@@ -149,18 +150,24 @@ pub record IsFirst {D : Type 0} (seen : D → Image) (may_leave : D → Image �
   pub rest : IsAtRest seen may_leave first (new_log A 1 (start_image form answers)) disk
   pub within : IsTrue (is_within [] answers)
 
+-- the same of what a session keeps
+abbrev pub IsFirstIn : {D : Type 0} → (D → Image) → (D → Image → Type 0) → List ℕ → List Answer → Option Journal → D → Type 0
+IsFirstIn seen may_leave form answers None disk = ⊥
+IsFirstIn seen may_leave form answers (Some journal) disk = IsFirst seen may_leave form answers journal disk
+
 -- what a start makes where the slots hold no session
-abbrev pub HasStarted : {P : Type 0} → (P → State) → Result (Session P) BeginFault → List StoreCall → List ℕ → List ℕ → Outcome → Type 0
+abbrev pub HasStarted : {P : Type 0} → (P → State) → Result (Session P) OpenFault → List StoreCall → List ℕ → List ℕ → Outcome → Type 0
 HasStarted state (Ok session) made old new given = (posted : Posted) × IsAccepted given (state session.processor) made posted × (new ≡ old ++ note_lines posted.notes)
 HasStarted state (Err (Refused refusal)) made old new given = IsRefusedAfter refusal made given
 HasStarted state (Err (OtherForm at)) made old new given = ⊥
 HasStarted state (Err (Damaged slot at)) made old new given = ⊥
+HasStarted state (Err NoSession) made old new given = ⊥
 HasStarted state (Err DiskFault) made old new given = Unit {0}
 HasStarted state (Err Memory) made old new given = Unit {0}
 
 -- over two closed slots, of which a crash leaves what a read gives
 pub record StartsIn {P D : Type 0} (state : P → State) (tells : D → Bool) (seen : D → Image) (may_leave : D → Image → Type 0) (moment : D → ℕ) (left_since : D → ℕ → Image → Type 0)
-    (bytes : List ℕ) (program : Program) (result : Result (Session P) BeginFault) (first last : Told) (old_text new_text : List ℕ) (old new : D) : Type 0 where
+    (bytes : List ℕ) (program : Program) (result : Result (Session P) OpenFault) (first last : Told) (old_text new_text : List ℕ) (old new : D) : Type 0 where
   pub made : List StoreCall
   pub called : Called first last [] made
   pub own : Covers (answers_in made) made
@@ -169,15 +176,4 @@ pub record StartsIn {P D : Type 0} (state : P → State) (tells : D → Bool) (s
   pub begun : IsTrue (tells old) → StandsForNone (seen old) → IsSettled (seen old) (may_leave old)
       → IfOk result (λ session. IsSession state seen may_leave bytes (answers_in made) [] session new)
   pub used : IsTrue (tells old) → StandsForNone (seen old) → IsSettled (seen old) (may_leave old)
-      → IfOk result (λ session. session.journal ≡ journal_of (new_log A 1 (start_image bytes (answers_in made))))
-
--- ---- causes
-
--- the disk was at fault where the answer says so
-pub record HasBeginCause {T : Type 0} (before now : ℕ) (result : Result T BeginFault) : Type 0 where
-  pub later : before ≤ now
-  pub failed : result ≡ Err DiskFault → Rose before now
-
-pub record HasResumeCause {P : Type 0} (before now : ℕ) (result : Result (Session P) ResumeFault) : Type 0 where
-  pub later : before ≤ now
-  pub failed : result ≡ Err resume.DiskFault → Rose before now
+      → IfOk result (λ session. session.journal ≡ Some (journal_of (new_log A 1 (start_image bytes (answers_in made)))))

@@ -1,7 +1,8 @@
 -- What slots keep of a session that is played again from its start: the answers of the start as their base, and each event that it took as an entry.
-use Rattle.std.specs.Prelude.{ℕ, ◌≡◌, ◌⊎◌, false, List, [], None, Some, Ok}
+use Rattle.std.specs.Prelude.{ℕ, ◌≡◌, ◌⊎◌, false, List, [], Option, None, Some, Ok}
 use Rattle.xf_disk.specs.Image.{Image}
 use Rattle.xf_store.specs.declared.answers.Answer.{Answer}
+use Rattle.xf_journal.specs.declared.journal.Journal.{Journal}
 use Rattle.xf_journal.specs.Held.{Log, held}
 use Rattle.xf_journal.specs.Scanned.{IsAtRest}
 use Rattle.xf_def_machine.specs.State.{State}
@@ -37,15 +38,30 @@ KeepsNoItem bytes image = StandsForNone image ⊎ ((answers : List Answer) × Ke
 
 -- ---- sessions
 
--- the journal in hand is that of the slots, and a crash leaves what a read gives; once the session is broken nothing is told
+-- the bytes in use in the slot of a journal, if there is one
+abbrev pub used_in : Option Journal → ℕ
+used_in None = 0
+used_in (Some journal) = journal.used
+
+-- the slots hold this journal, which is the one in hand, and a crash leaves what a read gives
+abbrev pub RestsAs : {D : Type 0} → (D → Image) → (D → Image → Type 0) → Option Journal → Log → D → Type 0
+RestsAs seen may_leave None log disk = ⊥
+RestsAs seen may_leave (Some journal) log disk = IsAtRest seen may_leave journal log disk
+
+-- the slots hold the journal in hand, if there is one
+abbrev pub Rests : {D : Type 0} → (D → Image) → (D → Image → Type 0) → Option Journal → D → Type 0
+Rests seen may_leave None disk = Unit {0}
+Rests seen may_leave (Some journal) disk = (log : Log) × IsAtRest seen may_leave journal log disk
+
+-- the journal in hand is that of the slots; once the session is broken nothing is told
 abbrev pub IsAtDisk : {P D : Type 0} → (D → Image) → (D → Image → Type 0) → Session P → D → Type 0
-IsAtDisk seen may_leave session disk = session.is_broken ≡ false → (log : Log) × IsAtRest seen may_leave session.journal log disk
+IsAtDisk seen may_leave session disk = session.is_broken ≡ false → Rests seen may_leave session.journal disk
 
 -- the session that took these items: the slots keep it, and who runs the form is in the very state that it came to
 pub record InSession {P D : Type 0} (state : P → State) (seen : D → Image) (may_leave : D → Image → Type 0) (bytes : List ℕ) (answers : List Answer) (items : List Item)
     (last : history.Session) (session : Session P) (disk : D) : Type 0 where
   pub log : Log
-  pub rest : IsAtRest seen may_leave session.journal log disk
+  pub rest : RestsAs seen may_leave session.journal log disk
   pub keeps : LogKeeps bytes answers items last log
   pub same : state session.processor ≡ last.state
   pub whole : session.is_broken ≡ false

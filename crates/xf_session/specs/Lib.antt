@@ -1,7 +1,9 @@
 pub mod Faults
+pub mod Constructing
 pub mod Processing
 pub mod Opening
 pub mod Replaying
 pub mod Keeping
 pub mod Posting
 pub mod Beginning
+pub mod Figures

@@ -1,6 +1,7 @@
 -- What a session makes of an event.
-use Rattle.std.specs.Prelude.{◌≡◌, ◌≤◌, ◌<◌, ◌+◌, ◌^◌, length, ℕ, Bool, true, false, IsTrue, List, [], ◌∷◌, ◌++◌, Result, Ok, Err}
+use Rattle.std.specs.Prelude.{◌≡◌, ◌≤◌, ◌<◌, ◌+◌, length, ℕ, Bool, true, false, IsSome, IsTrue, List, [], ◌∷◌, ◌++◌, Option, Some, None, Result, Ok, Err}
 use Rattle.xf_base.specs.Faults.{Rose}
+use Rattle.xf_base.specs.Limits.{used_limit}
 use Rattle.xf_disk.specs.Image.{Image}
 use Rattle.xf_disk.specs.Crash.{LeavesOnly}
 use Rattle.xf_line.specs.declared.event.Event.{Event}
@@ -10,6 +11,7 @@ use Rattle.xf_store.specs.declared.answers.Answer.{Answer}
 use Rattle.xf_store.specs.declared.call.StoreCall.{StoreCall}
 use Rattle.xf_store.specs.Called.{Called, Told}
 use Rattle.xf_store.specs.Replay.{Covers}
+use Rattle.xf_journal.specs.declared.journal.Journal.{Journal}
 use Rattle.xf_journal.specs.Entry.{written_bytes}
 use Rattle.xf_def_machine.specs.State.{State}
 use Rattle.xf_def_machine.specs.Replies.{answers_in, ok_text}
@@ -19,11 +21,7 @@ use Rattle.xf_session.specs.declared.fault.PostFault.{PostFault}
 use Rattle.xf_session.specs.declared.fault.PostFault.TheVariants.{Refused, NotBuilt, DiskFault, Broken, Memory}
 use Rattle.xf_session.specs.declared.session.Session.{Session}
 use Rattle.xf_session.specs.Processing.{IsAccepted, IsRefusedAfter}
-use Rattle.xf_session.specs.Keeping.{IsSession, KeepsOne}
-
--- bytes in use with which a slot takes an event
-abbrev pub used_limit : ℕ
-used_limit = 2 ^ 25
+use Rattle.xf_session.specs.Keeping.{IsSession, KeepsOne, used_in}
 
 -- ---- the answer
 
@@ -36,7 +34,7 @@ pub record IsUnchanged {P : Type 0} (state : P → State) (before after : Sessio
 -- the event was handed to who runs the form
 pub record IsTried {P : Type 0} (before : Session P) : Type 0 where
   pub whole : before.is_broken ≡ false
-  pub room : before.journal.used ≤ used_limit
+  pub room : used_in before.journal ≤ used_limit
 
 -- no event was looked at
 pub record IsPassed {P : Type 0} (before after : Session P) (made : List StoreCall) : Type 0 where
@@ -48,11 +46,16 @@ abbrev pub IsAnswered : {P : Type 0} → (P → State) → Result Unit PostFault
 IsAnswered state (Ok done) before after made old new given =
     IsTried before × (after.is_broken ≡ false) × ((posted : Posted) × IsAccepted given (state after.processor) made posted × (new ≡ old ++ ok_text true (state after.processor) posted))
 IsAnswered state (Err (Refused refusal)) before after made old new given = IsTried before × IsRefusedAfter refusal made given × IsUnchanged state before after
-IsAnswered state (Err NotBuilt) before after made old new given = (before.is_broken ≡ false) × (used_limit < before.journal.used) × IsPassed before after made
+IsAnswered state (Err NotBuilt) before after made old new given = (before.is_broken ≡ false) × (used_limit < used_in before.journal) × IsPassed before after made
 IsAnswered state (Err DiskFault) before after made old new given =
     IsTried before × (state after.processor ≡ state before.processor) × (after.is_broken ≡ true) × ((s : State) × (posted : Posted) × IsAccepted given s made posted)
 IsAnswered state (Err Broken) before after made old new given = (before.is_broken ≡ true) × IsPassed before after made
 IsAnswered state (Err Memory) before after made old new given = IsTried before × IsUnchanged state before after
+
+-- what keeps nothing goes on keeping nothing, with no call of the disk; what keeps goes on so
+abbrev pub KeepsAs : {D : Type 0} → Option Journal → Result Unit PostFault → Option Journal → D → D → Type 0
+KeepsAs None result after old new = (after ≡ None) × (new ≡ old) × (result ≡ Err DiskFault → ⊥)
+KeepsAs (Some journal) result after old new = IsSome after
 
 -- what the keeping of an entry leaves of a session
 abbrev pub IsKept : {P D : Type 0} → Session P → Result Unit PostFault → Session P → D → D → Type 0
@@ -86,8 +89,12 @@ GoesOn state seen may_leave moment left_since before text event given result aft
     → Went state seen may_leave moment left_since bytes answers items (line event given) result after old new
 
 -- the journal in hand has the entry of an event that was kept
+abbrev pub GrowsBy : Option Journal → Option Journal → ℕ → Type 0
+GrowsBy None after count = Unit {0}
+GrowsBy (Some journal) after count = used_in after ≡ journal.used + count
+
 abbrev pub Grows : {P : Type 0} → Result Unit PostFault → Session P → Session P → List ℕ → List Answer → Type 0
-Grows (Ok done) before after text answers = after.journal.used ≡ before.journal.used + length (written_bytes text answers)
+Grows (Ok done) before after text answers = GrowsBy before.journal after.journal (length (written_bytes text answers))
 Grows (Err fault) before after text answers = Unit {0}
 
 -- no call of the disk was made, but for an event that is kept
@@ -110,6 +117,7 @@ pub record PostsIn {P D : Type 0} (state : P → State) (tells : D → Bool) (se
   pub own : Covers (answers_in made) made
   pub is : (answers : List Answer) → Covers answers made → IsAnswered state result before after made old new (given answers)
   pub still : Stays result old_disk new_disk
+  pub keeps : KeepsAs before.journal result after.journal old_disk new_disk
   pub grows : IsTrue (tells old_disk) → Grows result before after text (answers_in made)
   pub goes : IsTrue (tells old_disk) → GoesOn state seen may_leave moment left_since before text event (answers_in made) result after old_disk new_disk
 

@@ -11,8 +11,8 @@ use Rattle.xf_def_machine.specs.Start.{readied}
 use Rattle.xf_def_machine.specs.Step.{Posted, Outcome, accepted, refused, outcome, at_end}
 use Rattle.xf_def_machine.specs.Told.{Tells}
 use Rattle.xf_def_form.specs.Formed.{profile}
-use Rattle.xf_session.specs.declared.fault.EventFault.{EventFault}
-use Rattle.xf_session.specs.declared.fault.EventFault.TheVariants.{Refused, Memory}
+use Rattle.xf_actions.specs.declared.fault.EventFault.{EventFault}
+use Rattle.xf_actions.specs.declared.fault.EventFault.TheVariants.{Refused, Memory}
 
 -- what is given back after an event: the state before it, where it is pending
 abbrev pub kept_after : Result Unit EventFault → State → Option State
@@ -56,6 +56,13 @@ abbrev pub IsStarted : {P : Type 0} → (P → State) → Result P EventFault �
 IsStarted state (Ok p) made old new given = (posted : Posted) × IsAccepted given (state p) made posted × (new ≡ old ++ note_lines posted.notes)
 IsStarted state (Err (Refused refusal)) made old new given = IsRefusedAfter refusal made given
 IsStarted state (Err Memory) made old new given = Unit {0}
+
+-- these calls it made of the store, and it is what the machine does over all answers that give these calls what they got
+pub record StartsAlone {P : Type 0} (state : P → State) (result : Result P EventFault) (before : State) (first last : Told) (old new : List ℕ) : Type 0 where
+  pub made : List StoreCall
+  pub called : Called first last [] made
+  pub own : Covers (answers_in made) made
+  pub is : (answers : List Answer) → Covers answers made → IsStarted state result made old new (started before answers)
 
 -- what of it is pending
 abbrev pub IsPending : {P : Type 0} → (P → Option State) → (P → List StoreCall) → Result P EventFault → List StoreCall → Type 0

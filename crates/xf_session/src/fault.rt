@@ -1,17 +1,10 @@
-//! Why a session is not opened, and why an event is not taken.
+//! Why a session is not opened, and why it does not take an event.
 
 use std::alloc::AllocError;
+use xf_actions::EventFault;
 use xf_def_machine::Refusal;
 use xf_disk::Slot;
-use xf_io::Failed;
 use xf_journal::JournalFault;
-
-/// Why a processor does not take an event.
-#[derive(Debug, Drop)]
-pub enum EventFault {
-    Refused(Refusal),
-    Memory,
-}
 
 /// Why a session does not take an event.
 #[derive(Debug, Drop)]
@@ -26,38 +19,17 @@ pub enum PostFault {
     Memory,
 }
 
-/// Why a session that the slots hold is not opened.
-#[derive(Clone, Copy, Debug, PartialEq, Eq)]
-pub(crate) enum OpenFault {
-    OtherForm(u64),
-    Damaged(Slot, u64),
-    DiskFault,
-    Memory,
-}
-
-/// Why a session is not opened.
-#[derive(Clone, Copy, Debug, PartialEq, Eq)]
-pub enum ResumeFault {
-    /// The slots hold a session of another form: its bytes differ at this place first.
-    OtherForm(u64),
-    /// What stands at this offset of this slot is not what the processor wrote.
-    Damaged(Slot, u64),
-    /// Both slots are closed.
-    NoSession,
-    /// A call of the disk failed.
-    DiskFault,
-    Memory,
-}
-
 /// Why a session is neither opened nor begun.
 #[derive(Debug, Drop)]
-pub enum BeginFault {
+pub enum OpenFault {
     /// The slots hold no session, and the start of the form is refused.
     Refused(Refusal),
     /// The slots hold a session of another form: its bytes differ at this place first.
     OtherForm(u64),
     /// What stands at this offset of this slot is not what the processor wrote.
     Damaged(Slot, u64),
+    /// Both slots are closed, and none is to begin.
+    NoSession,
     /// A call of the disk failed.
     DiskFault,
     Memory,
@@ -114,70 +86,16 @@ impl From<JournalFault> for OpenFault {
     }
 }
 
-impl From<OpenFault> for ResumeFault {
+impl From<EventFault> for OpenFault {
     ghost use Rattle.std.specs.Prelude.{◌≡◌};
-    ghost use Rattle.xf_session.specs.Faults.{resume_of};
+    ghost use Rattle.xf_session.specs.Faults.{of_start};
 
-    ghost from_gives = { λ fault given. given ≡ resume_of fault };
-
-    fn from(fault: OpenFault) -> Self {
-        match fault {
-            OpenFault::OtherForm(at) => ResumeFault::OtherForm(at),
-            OpenFault::Damaged(slot, at) => ResumeFault::Damaged(slot, at),
-            OpenFault::DiskFault => ResumeFault::DiskFault,
-            OpenFault::Memory => ResumeFault::Memory,
-        }
-    }
-}
-
-impl From<OpenFault> for BeginFault {
-    ghost use Rattle.std.specs.Prelude.{◌≡◌};
-    ghost use Rattle.xf_session.specs.Faults.{begin_of};
-
-    ghost from_gives = { λ fault given. given ≡ begin_of fault };
-
-    fn from(fault: OpenFault) -> Self {
-        match fault {
-            OpenFault::OtherForm(at) => BeginFault::OtherForm(at),
-            OpenFault::Damaged(slot, at) => BeginFault::Damaged(slot, at),
-            OpenFault::DiskFault => BeginFault::DiskFault,
-            OpenFault::Memory => BeginFault::Memory,
-        }
-    }
-}
-
-impl From<EventFault> for BeginFault {
-    ghost use Rattle.std.specs.Prelude.{◌≡◌};
-    ghost use Rattle.xf_session.specs.Faults.{begin_of_event};
-
-    ghost from_gives = { λ fault given. given ≡ begin_of_event fault };
+    ghost from_gives = { λ fault given. given ≡ of_start fault };
 
     fn from(fault: EventFault) -> Self {
         match fault {
-            EventFault::Refused(refusal) => BeginFault::Refused(refusal),
-            EventFault::Memory => BeginFault::Memory,
+            EventFault::Refused(refusal) => OpenFault::Refused(refusal),
+            EventFault::Memory => OpenFault::Memory,
         }
-    }
-}
-
-impl From<AllocError> for BeginFault {
-    ghost use Rattle.std.specs.Prelude.{◌≡◌};
-    ghost use Rattle.xf_session.specs.declared.fault.BeginFault.TheVariants.{Memory};
-
-    ghost from_gives = { λ _ fault. fault ≡ Memory };
-
-    fn from(_: AllocError) -> Self {
-        BeginFault::Memory
-    }
-}
-
-impl From<Failed> for BeginFault {
-    ghost use Rattle.std.specs.Prelude.{◌≡◌};
-    ghost use Rattle.xf_session.specs.declared.fault.BeginFault.TheVariants.{DiskFault};
-
-    ghost from_gives = { λ _ fault. fault ≡ DiskFault };
-
-    fn from(_: Failed) -> Self {
-        BeginFault::DiskFault
     }
 }

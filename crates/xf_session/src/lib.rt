@@ -4,6 +4,8 @@
 mod answers;
 mod beginning;
 mod fault;
+mod figures;
+mod forms;
 mod looking;
 mod offset;
 mod processor;
@@ -12,8 +14,10 @@ mod replay;
 mod session;
 mod starting;
 
-pub use beginning::{begin, resume};
-pub(crate) use fault::OpenFault;
-pub use fault::{BeginFault, EventFault, PostFault, ResumeFault};
+pub use beginning::{begin, resume, start};
+pub use fault::{OpenFault, PostFault};
+pub use figures::Figures;
+pub use forms::{FormFault, Forms};
 pub use processor::{Processor, Starting};
 pub use session::Session;
+pub use xf_actions::EventFault;

@@ -8,7 +8,8 @@ ghost use Rattle.xf_journal.specs.Scanned.{scanned_of};
 ghost use Rattle.xf_def_sessions.specs.Images.{answers_at_base};
 ghost use Rattle.xf_def_sessions.specs.Opening.{base_offset, difference_from};
 ghost use Rattle.xf_session.specs.declared.fault.OpenFault.TheVariants.{Damaged};
-ghost use Rattle.xf_session.specs.Replaying.{IsFound, IsFoundWithin, IsOfReading, Looks, HasOpenCause};
+ghost use Rattle.xf_session.specs.Opening.{begins_start};
+ghost use Rattle.xf_session.specs.Replaying.{IsFound, IsFoundWithin, IsOfLooking, IsOfReading, Looks, HasOpenCause};
 
 use crate::OpenFault;
 use crate::offset::gate_before;
@@ -16,6 +17,9 @@ use std::alloc::{AllocError, Global};
 use xf_disk::{Disk, Slot};
 use xf_journal::{Scanned, answers_in, scan};
 use xf_store::Answers;
+
+/// Where the count of adoptions stands in a slot.
+const ADOPTIONS_OFFSET: u64 = 21;
 
 /// What was read of the slots, and the answers of the start that are its base.
 #[derive(Drop)]
@@ -50,6 +54,7 @@ pub(crate) fn look<D: Disk>(
 ) -> Result<Option<Found>, OpenFault>
     ensures found { IsTrue (D.tells disk.old) → Looks form.now (held (D.seen disk.old)) result }
     ensures within { IfOk result (λ found. IfSome found IsFoundWithin) }
+    ensures only { IfErr result IsOfLooking }
     ensures looks { OnlyLooks D.tells D.seen D.may_leave D.moment D.left_since disk.old disk.new }
     ensures settled { IsTrue (D.tells disk.old) → IfOk result (λ found. IsSettled (D.seen disk.new) (D.may_leave disk.new)) }
     ensures cause { HasOpenCause (D.faults disk.old) (D.faults disk.new) result }
@@ -63,19 +68,32 @@ pub(crate) fn look<D: Disk>(
     }
 }
 
-/// A session of the form with these bytes, whose base is a start.
+/// A session of the form with these bytes, whose base is a start, with no adoption before it.
 pub(crate) fn found_in(alloc: Global, form: &[u8], scanned: Scanned) -> Result<Found, OpenFault>
     requires { IsTrue (are_within scanned.entries) }
     ensures found { (log : Log) → scanned ≡ scanned_of log → IsFound form.now log result }
     ensures within { IfOk result IsFoundWithin }
     ensures only { IfErr result IsOfReading }
 {
+    if scanned.adoptions > 0 && begins_start(scanned.base.as_slice()) {
+        return Err(OpenFault::Damaged(scanned.journal.slot(), ADOPTIONS_OFFSET));
+    }
     if let Some(at) = difference(scanned.form.as_slice(), form) {
         return Err(OpenFault::OtherForm(at));
     }
     match answers_at_base(alloc, scanned.base.as_slice())? {
         Some(answers) => Ok(Found { scanned, answers }),
         None => Err(OpenFault::Damaged(scanned.journal.slot(), base_offset(&scanned))),
+    }
+}
+
+/// Whether a base is a start: no adoption stands before one.
+fn begins_start(base: &[u8]) -> bool
+    ensures { result ≡ begins_start base.now }
+{
+    match base.split_first() {
+        Some((0, _)) => true,
+        _ => false,
     }
 }
 

@@ -1,6 +1,7 @@
 //! Who runs a form.
-ghost use Rattle.std.specs.Prelude.{◌≡◌, [], Some, None, IsSome, IfOk, IsTrue, string_bytes};
+ghost use Rattle.std.specs.Prelude.{◌≡◌, ◌++◌, [], Some, None, IsSome, IfOk, OnOk, IsTrue, string_bytes};
 ghost use Rattle.xf_journal.specs.Entry.{is_within};
+ghost use Rattle.xf_def_machine.specs.ControlText.{state_text};
 ghost use Rattle.xf_def_machine.specs.Replies.{answers_in};
 ghost use Rattle.xf_def_machine.specs.Step.{step};
 ghost use Rattle.xf_def_form.specs.Formed.{profile};
@@ -39,6 +40,11 @@ pub trait Processor: Drop {
         ensures done { Posts result (state self.old) (state self.new) (calls self.new) (S.calls store.old, S.to_come store.old) (S.calls store.new, S.to_come store.new)
             (string_bytes text.old) (string_bytes text.new) (step profile (state self.old) event.now) }
         ensures kept { kept self.new ≡ kept_after result (state self.old) };
+
+    /// Appends the text of the state. It is for who has no event pending.
+    fn push_state(&self, text: &mut String) -> Result<(), AllocError>
+        requires { kept self.now ≡ None }
+        ensures { OnOk result (string_bytes text.new ≡ string_bytes text.old ++ state_text profile (state self.now)) };
 
     /// What the store answered to the calls of the event that is pending, in order.
     fn answers(&self) -> Result<Answers, AllocError>

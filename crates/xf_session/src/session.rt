@@ -1,31 +1,30 @@
 //! A session: a processor, and the journal by which it outlasts a crash.
-ghost use Rattle.std.specs.Prelude.{◌≡◌, ◌≤◌, None, false, length, IsSome, IsTrue, OnOk, string_bytes};
-ghost use Rattle.xf_base.specs.Limits.{line_limit};
+ghost use Rattle.std.specs.Prelude.{◌≡◌, ◌≤◌, None, Some, false, length, nat_lt, IsSome, IsTrue, OnOk, string_bytes};
+ghost use Rattle.xf_base.specs.Limits.{line_limit, used_limit};
 ghost use Rattle.xf_disk.specs.Crash.{LeavesOnly};
 ghost use Rattle.xf_journal.specs.Held.{Log};
-ghost use Rattle.xf_journal.specs.Scanned.{IsAtRest, HoldsEither, with_accepted};
+ghost use Rattle.xf_journal.specs.Scanned.{HoldsEither, with_accepted};
 ghost use Rattle.xf_def_machine.specs.Replies.{answers_in};
 ghost use Rattle.xf_def_machine.specs.Step.{step};
 ghost use Rattle.xf_def_form.specs.Formed.{profile};
-ghost use Rattle.xf_session.specs.Keeping.{IsAtDisk};
-ghost use Rattle.xf_session.specs.Posting.{PostsIn, HasPostCause, IsKept, used_limit};
+ghost use Rattle.xf_session.specs.Keeping.{IsAtDisk, Rests, RestsAs, used_in};
+ghost use Rattle.xf_session.specs.Posting.{PostsIn, HasPostCause, IsKept, KeepsAs};
 
 use crate::{PostFault, Processor};
 use std::alloc::Global;
+use xf_base::limits::USED_LIMIT;
 use xf_disk::Disk;
 use xf_journal::{Journal, make_entry};
 use xf_line::Event;
 use xf_store::Store;
 
-/// The bytes in use with which a slot takes an event.
-const USED_LIMIT: u64 = 1 << 25;
-
-/// A session of a form: who runs it, and the journal. After a fault of the disk it is broken: the slots are to be opened again.
+/// A session of a form: who runs it, and the journal that keeps it, if it is kept. After a fault of the disk it is broken: the slots are to be opened
+/// again.
 #[derive(Drop)]
 pub struct Session<P: Processor> {
     pub(crate) alloc: Global,
     pub(crate) processor: P,
-    pub(crate) journal: Journal,
+    pub(crate) journal: Option<Journal>,
     pub(crate) is_broken: bool,
 }
 
@@ -33,13 +32,27 @@ impl<P: Processor> Session<P> {
     /// The session that a journal keeps.
     pub(crate) fn new(alloc: Global, processor: P, journal: Journal) -> Session<P>
         ensures processor { result.processor ≡ processor }
-        ensures journal { result.journal ≡ journal }
+        ensures journal { result.journal ≡ Some journal }
         ensures whole { result.is_broken ≡ false }
     {
         Session {
             alloc,
             processor,
-            journal,
+            journal: Some(journal),
+            is_broken: false,
+        }
+    }
+
+    /// A session that nothing keeps.
+    pub(crate) fn unkept(alloc: Global, processor: P) -> Session<P>
+        ensures processor { result.processor ≡ processor }
+        ensures journal { result.journal ≡ None }
+        ensures whole { result.is_broken ≡ false }
+    {
+        Session {
+            alloc,
+            processor,
+            journal: None,
             is_broken: false,
         }
     }
@@ -51,8 +64,8 @@ impl<P: Processor> Session<P> {
         &self.processor
     }
 
-    /// Does the event of a line, and keeps it: after `Ok` each crash leaves it, and its lines, which are appended, may be told. After a refusal or
-    /// want of memory the session is as before. After `DiskFault` it is broken, and the event may stand on the disk. After an `Err` nothing is told
+    /// Does the event of a line, and keeps it, where the session is kept: after `Ok` each crash leaves it, and its lines, which are appended, may be
+    /// told. After a refusal or want of memory the session is as before. After `DiskFault` it is broken, and the event may stand on the disk. After an `Err` nothing is told
     /// of the text.
     pub fn post<D: Disk, S: Store>(
         &mut self,
@@ -76,7 +89,7 @@ impl<P: Processor> Session<P> {
         if self.is_broken {
             return Err(PostFault::Broken);
         }
-        if self.journal.used() > USED_LIMIT {
+        if self.is_full() {
             return Err(PostFault::NotBuilt);
         }
         self.processor.post(event, store, text)?;
@@ -92,23 +105,37 @@ impl<P: Processor> Session<P> {
         }
     }
 
-    /// Appends an entry with this line and the answers that the event got which is pending.
+    /// Whether the slot in use has so many bytes in use that no event is added.
+    fn is_full(&self) -> bool
+        ensures { result ≡ nat_lt used_limit (used_in self.now.journal) }
+    {
+        match &self.journal {
+            Some(journal) => journal.used() > USED_LIMIT,
+            None => false,
+        }
+    }
+
+    /// Appends an entry with this line and the answers that the event got which is pending, where the session is kept.
     fn keep<D: Disk>(&mut self, line: &[u8], disk: &mut D) -> Result<(), PostFault>
         requires pending { IsSome (P.kept self.old.processor) }
         requires line { length line.now ≤ line_limit }
-        requires room { self.old.journal.used ≤ used_limit }
-        requires rest { IsTrue (D.tells disk.old) → (log : Log) × IsAtRest D.seen D.may_leave self.old.journal log disk.old }
-        ensures each_moment { IsTrue (D.tells disk.old) → (log : Log) → IsAtRest D.seen D.may_leave self.old.journal log disk.old
+        requires room { used_in self.old.journal ≤ used_limit }
+        requires rest { IsTrue (D.tells disk.old) → Rests D.seen D.may_leave self.old.journal disk.old }
+        ensures each_moment { IsTrue (D.tells disk.old) → (log : Log) → RestsAs D.seen D.may_leave self.old.journal log disk.old
             → LeavesOnly D.moment D.left_since disk.old disk.new (HoldsEither log (with_accepted log line.now (answers_in (P.calls self.old.processor)))) }
-        ensures done { IsTrue (D.tells disk.old) → (log : Log) → IsAtRest D.seen D.may_leave self.old.journal log disk.old
-            → OnOk result (IsAtRest D.seen D.may_leave self.new.journal (with_accepted log line.now (answers_in (P.calls self.old.processor))) disk.new) }
+        ensures done { IsTrue (D.tells disk.old) → (log : Log) → RestsAs D.seen D.may_leave self.old.journal log disk.old
+            → OnOk result (RestsAs D.seen D.may_leave self.new.journal (with_accepted log line.now (answers_in (P.calls self.old.processor))) disk.new) }
         ensures kept { IsKept self.old result self.new disk.old disk.new }
+        ensures keeps { KeepsAs self.old.journal result self.new.journal disk.old disk.new }
         ensures tells { D.tells disk.new ≡ D.tells disk.old }
         ensures cause { HasPostCause (D.faults disk.old) (D.faults disk.new) result }
     {
+        let Some(journal) = &mut self.journal else {
+            return Ok(());
+        };
         let answers = self.processor.answers()?;
         let entry = make_entry(self.alloc, line, &answers)?;
-        match self.journal.append(disk, &entry) {
+        match journal.append(disk, &entry) {
             Ok(()) => Ok(()),
             Err(_) => {
                 self.is_broken = true;

@@ -9,10 +9,10 @@ ghost use Rattle.xf_def_machine.specs.Program.{Program};
 ghost use Rattle.xf_def_machine.specs.Replies.{answers_in};
 ghost use Rattle.xf_def_sessions.specs.Images.{StandsForNone};
 ghost use Rattle.xf_session.specs.Keeping.{IsAtDisk};
-ghost use Rattle.xf_session.specs.Replaying.{start_image};
-ghost use Rattle.xf_session.specs.Beginning.{IsBuilt, IsFirst, IsOfKeeping, HoldsOldOrFirst, Spares, StartsIn, HasBeginCause};
+ghost use Rattle.xf_session.specs.Beginning.{IsBuilt, IsFirst, IsFirstIn, IsOfKeeping, HoldsOldOrFirst, Spares, StartsIn};
+ghost use Rattle.xf_session.specs.Replaying.{HasOpenCause, start_image};
 
-use crate::{BeginFault, Processor, Session, Starting};
+use crate::{OpenFault, Processor, Session, Starting};
 use std::alloc::{AllocError, Global};
 use xf_disk::{Disk, Slot};
 use xf_io::Bytes;
@@ -27,7 +27,7 @@ pub(crate) fn started<P: Processor, C: Starting<P>, D: Disk, S: Store>(
     disk: &mut D,
     store: &mut S,
     notes: &mut String,
-) -> Result<Session<P>, BeginFault>
+) -> Result<Session<P>, OpenFault>
     requires small { length form.now ≤ form_limit }
     ensures done { (program : Program) → IsBuilt form.now program (C.first constructed)
         → StartsIn P.state D.tells D.seen D.may_leave D.moment D.left_since form.now program result
@@ -36,13 +36,14 @@ pub(crate) fn started<P: Processor, C: Starting<P>, D: Disk, S: Store>(
         → IfOk result (λ session. IsAtDisk D.seen D.may_leave session disk.new) }
     ensures idle { IfOk result (λ session. P.kept session.processor ≡ None) }
     ensures whole { IfOk result (λ session. session.is_broken ≡ false) }
+    ensures is_kept { IfOk result (λ session. IsSome session.journal) }
     ensures spares { Spares result (disk.new ≡ disk.old) }
     ensures tells { D.tells disk.new ≡ D.tells disk.old }
-    ensures cause { HasBeginCause (D.faults disk.old) (D.faults disk.new) result }
+    ensures cause { HasOpenCause (D.faults disk.old) (D.faults disk.new) result }
 {
     match constructed.start(store, notes) {
         Ok(processor) => kept(alloc, form, processor, disk),
-        Err(fault) => Err(BeginFault::from(fault)),
+        Err(fault) => Err(OpenFault::from(fault)),
     }
 }
 
@@ -52,20 +53,21 @@ fn kept<P: Processor, D: Disk>(
     form: &[u8],
     started: P,
     disk: &mut D,
-) -> Result<Session<P>, BeginFault>
+) -> Result<Session<P>, OpenFault>
     requires pending { IsSome (P.kept started) }
     requires small { length form.now ≤ form_limit }
     ensures state { IfOk result (λ session. P.state session.processor ≡ P.state started) }
     ensures each_moment { IsTrue (D.tells disk.old) → IsReady D.seen D.may_leave A 1 0 disk.old
         → LeavesOnly D.moment D.left_since disk.old disk.new (HoldsOldOrFirst (D.seen disk.old) form.now (answers_in (P.calls started))) }
     ensures done { IsTrue (D.tells disk.old) → IsReady D.seen D.may_leave A 1 0 disk.old
-        → IfOk result (λ session. IsFirst D.seen D.may_leave form.now (answers_in (P.calls started)) session.journal disk.new) }
+        → IfOk result (λ session. IsFirstIn D.seen D.may_leave form.now (answers_in (P.calls started)) session.journal disk.new) }
+    ensures is_kept { IfOk result (λ session. IsSome session.journal) }
     ensures whole { IfOk result (λ session. session.is_broken ≡ false) }
     ensures idle { IfOk result (λ session. P.kept session.processor ≡ None) }
     ensures only { IfErr result IsOfKeeping }
     ensures spares { Spares result (disk.new ≡ disk.old) }
     ensures tells { D.tells disk.new ≡ D.tells disk.old }
-    ensures cause { HasBeginCause (D.faults disk.old) (D.faults disk.new) result }
+    ensures cause { HasOpenCause (D.faults disk.old) (D.faults disk.new) result }
 {
     let mut processor = started;
     match first_journal(alloc, form, &processor, disk) {
@@ -83,7 +85,7 @@ fn first_journal<P: Processor, D: Disk>(
     form: &[u8],
     processor: &P,
     disk: &mut D,
-) -> Result<Journal, BeginFault>
+) -> Result<Journal, OpenFault>
     requires pending { IsSome (P.kept processor.now) }
     requires small { length form.now ≤ form_limit }
     ensures each_moment { IsTrue (D.tells disk.old) → IsReady D.seen D.may_leave A 1 0 disk.old
@@ -93,13 +95,13 @@ fn first_journal<P: Processor, D: Disk>(
     ensures only { IfErr result IsOfKeeping }
     ensures spares { Spares result (disk.new ≡ disk.old) }
     ensures tells { D.tells disk.new ≡ D.tells disk.old }
-    ensures cause { HasBeginCause (D.faults disk.old) (D.faults disk.new) result }
+    ensures cause { HasOpenCause (D.faults disk.old) (D.faults disk.new) result }
 {
     let answers = processor.answers()?;
     let image = first_image(alloc, form, &answers)?;
     match create(disk, Slot::A, 1, &image) {
         Ok(journal) => Ok(journal),
-        Err(_) => Err(BeginFault::DiskFault),
+        Err(_) => Err(OpenFault::DiskFault),
     }
 }
 
