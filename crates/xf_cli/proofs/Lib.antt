@@ -1,15 +1,1 @@
-pub mod Flushing
-pub mod ReplyLaws
-pub mod LineReads
-pub mod CourseLaws
-pub mod Moments
-pub mod Steps
-pub mod Reaching
-pub mod LineLaws
-pub mod RunLaws
-pub mod SessionRuns
-pub mod OpenLaws
-pub mod Replied
-pub mod FormBytes
-pub mod Ends
-pub mod Words
+pub mod MadeLaws

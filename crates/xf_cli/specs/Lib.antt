@@ -1,14 +1,1 @@
-pub mod Device
-pub mod Outside
-pub mod Replies
-pub mod Statuses
-pub mod Forms
-pub mod Answered
-pub mod Course
-pub mod Stops
-pub mod Sessions
-pub mod Kept
-pub mod Running
-pub mod Written
-pub mod Finish
-pub mod Opening
+pub mod Made

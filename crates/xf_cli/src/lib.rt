@@ -1,17 +1,8 @@
-//! The work of the program, over the objects that it is given.
+//! The work of the program, over the objects that it is given: its commands, with the forms of this processor.
 #![tactic(auto)]
 
-mod begin;
-mod finish;
-mod form;
-mod kept;
-mod line;
-mod opening;
-mod refusal;
-mod run;
-mod session;
-mod slots;
-mod status;
+mod forms;
+mod top;
 
-pub use run::{no_room, xforms};
-pub use status::{Command, Status};
+pub use top::xforms;
+pub use xf_cli_commands::no_room;

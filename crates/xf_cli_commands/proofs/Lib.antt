@@ -1,0 +1,16 @@
+pub mod Flushing
+pub mod ReplyLaws
+pub mod LineReads
+pub mod CourseLaws
+pub mod Moments
+pub mod Steps
+pub mod Reaching
+pub mod LineLaws
+pub mod RunLaws
+pub mod SessionRuns
+pub mod OpenLaws
+pub mod Replied
+pub mod TryRuns
+pub mod FormBytes
+pub mod Ends
+pub mod Words

@@ -1,0 +1,13 @@
+pub mod Device
+pub mod Outside
+pub mod Replies
+pub mod Statuses
+pub mod Forms
+pub mod Answered
+pub mod Course
+pub mod Stops
+pub mod Sessions
+pub mod Kept
+pub mod Written
+pub mod Finish
+pub mod Opening
