@@ -3,7 +3,8 @@
 
 mod explaining;
 
-use explaining::{FORM, explain_status};
+use explaining::{FORM, Reasons, SLOT_A, SLOT_B, explain_status};
+use std::alloc::AllocError;
 use std::fs::File;
 use std::os::fd::AsRawFd;
 use std::process::ExitCode;
@@ -21,7 +22,7 @@ fn main(rt: HostRuntime) -> ExitCode {
     let Some(words) = read_words(&rt) else {
         return ExitCode::from(no_room(&mut out));
     };
-    let Ok(mut disk) = FileDisk::new(alloc, &rt, "session.a", "session.b") else {
+    let Ok(mut disk) = disk_for(&rt, &words) else {
         return ExitCode::from(no_room(&mut out));
     };
     let Ok(mut store) = FolderStore::new(alloc, &rt, "store") else {
@@ -38,8 +39,27 @@ fn main(rt: HostRuntime) -> ExitCode {
         &mut disk,
         &mut store,
     );
-    explain_status(&rt, status);
+    let reasons = Reasons {
+        form: form.why(),
+        events: events.why(),
+        out: out.why(),
+        disk: disk.why(),
+        unlocked: disk.unlocked(),
+    };
+    explain_status(&rt, status, &reasons);
     ExitCode::from(status)
+}
+
+// The disk of the slots: for `show` one that reads alone.
+fn disk_for<'a>(
+    rt: &'a HostRuntime,
+    words: &[String],
+) -> Result<FileDisk<'a, HostRuntime>, AllocError> {
+    if words.iter().any(|word| word.as_str() == "show") {
+        FileDisk::to_read(rt.alloc(), rt, SLOT_A, SLOT_B)
+    } else {
+        FileDisk::new(rt.alloc(), rt, SLOT_A, SLOT_B)
+    }
 }
 
 // Takes the place of a standard stream that is closed, if one is, by a folder: what can neither be read nor written.
