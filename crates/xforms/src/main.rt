@@ -3,7 +3,7 @@
 
 mod explaining;
 
-use explaining::{FORM, Reasons, SLOT_A, SLOT_B, explain_status};
+use explaining::{FORM, explain_status};
 use std::alloc::AllocError;
 use std::fs::File;
 use std::os::fd::AsRawFd;
@@ -39,14 +39,7 @@ fn main(rt: HostRuntime) -> ExitCode {
         &mut disk,
         &mut store,
     );
-    let reasons = Reasons {
-        form: form.why(),
-        events: events.why(),
-        out: out.why(),
-        disk: disk.why(),
-        unlocked: disk.unlocked(),
-    };
-    explain_status(&rt, status, &reasons);
+    explain_status(&rt, status);
     ExitCode::from(status)
 }
 
@@ -56,9 +49,9 @@ fn disk_for<'a>(
     words: &[String],
 ) -> Result<FileDisk<'a, HostRuntime>, AllocError> {
     if words.iter().any(|word| word.as_str() == "show") {
-        FileDisk::to_read(rt.alloc(), rt, SLOT_A, SLOT_B)
+        FileDisk::to_read(rt.alloc(), rt, "session.a", "session.b")
     } else {
-        FileDisk::new(rt.alloc(), rt, SLOT_A, SLOT_B)
+        FileDisk::new(rt.alloc(), rt, "session.a", "session.b")
     }
 }
 
